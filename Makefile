@@ -42,7 +42,7 @@ drivers := $(shell echo RTE_EAL_PMD_PATH | $(CC) -E -P -include rte_build_config
 ifneq ($(filter /usr /usr/local,$(or $(PREFIX:%/=%),/usr/local))$(filter $(PREFIX:%/=%)/%,$(drivers)),)
 DPDK_DRIVERS ?= $(drivers)
 endif
-plugins := dpdk/librte_mempool_mbufpool.so dpdk/librte_mempool_mbufpool_guard.so
+plugins := dpdk/librte_mempool_mbufpool.so dpdk/librte_mempool_mbufpool_guard.so dpdk/librte_mempool_mbufpool_watch.so
 dump := dpdk/libmbufpool_dump.so
 dump_header := dpdk/dump.h=mbufpool_dump.h
 tools := dpdk/mbufpool-dump dpdk/mbufpool-core

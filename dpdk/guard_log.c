@@ -1,11 +1,6 @@
 /* guard_log.c - the lines that the handler "mbufpool_guard" logs. */
-#ifndef _GNU_SOURCE
-#define _GNU_SOURCE /* dladdr1 */
-#endif
-#include <dlfcn.h>
 #include <execinfo.h>
 #include <inttypes.h>
-#include <link.h>
 #include <stdio.h>
 #include <string.h>
 #include <time.h>
@@ -35,71 +30,13 @@ static const struct {
 	{ MBUFPOOL_STRANGER, "MBUFPOOL_STRANGER", "the handle of its worker was overwritten" },
 };
 
-const char *
-guard_lcore_text(caller by, char *text)
-{
-	uint32_t who = by >> WAY_BITS;
-
-	if (who < 2)
-		snprintf(text, CALL_TEXT, "no lcore");
-	else
-		snprintf(text, CALL_TEXT, "lcore %" PRIu32, who - 2);
-	return text;
-}
-
-/* (an address of a file that isn't loaded any more stays a number) */
-static const char *
-call_text(uintptr_t address, char *text)
-{
-	const char *name;
-	struct link_map *module;
-	Dl_info info;
-
-	if (dladdr1((void *)address, &info, (void **)&module, RTLD_DL_LINKMAP) == 0) {
-		snprintf(text, CALL_TEXT, "0x%" PRIxPTR, address);
-		return text;
-	}
-	name = strrchr(info.dli_fname, '/');
-	snprintf(text, CALL_TEXT, "%.70s+0x%" PRIxPTR, name != NULL ? name + 1 : info.dli_fname,
-		address - module->l_addr);
-	return text;
-}
-
-static const uintptr_t *
-calls_of(caller by)
-{
-	return guard_way_calls(by % MAX_WAYS);
-}
-
-/* (the longest of it fits into PLACE_TEXT) */
-const char *
-guard_place_text(caller by, char *text)
-{
-	const uintptr_t *calls = calls_of(by);
-	char call[CALL_TEXT];
-	size_t length;
-	unsigned int i;
-
-	if (calls == NULL) {
-		snprintf(text, PLACE_TEXT, "a place without a number");
-		return text;
-	}
-	length = snprintf(text, PLACE_TEXT, "%s", call_text(calls[0], call));
-	for (i = 1; i <= MAX_CALLS && calls[i] != 0; i++)
-		length += snprintf(text + length, PLACE_TEXT - length, "%s%s", i == 1 ? " (" : ", ",
-			call_text(calls[i], call));
-	if (i > 1)
-		snprintf(text + length, PLACE_TEXT - length, ")");
-	return text;
-}
-
 /* Writes the calls on the way to the one that is told, from the nearest on, as far as the stack can
  * be unwound: where DPDK's rte_pktmbuf_free() isn't in line, or a library frees, they say whose call
  * it was. (apart, as of no other call than this one the way is known, but where all are noted) */
 static const char *
 way_text(caller by, char *text)
 {
-	const uintptr_t *calls = calls_of(by);
+	const uintptr_t *calls = call_place_calls(by % MAX_WAYS);
 	void *frames[MAX_CALLS + 16];
 	int n = guard_calls == 0 && calls != NULL ? backtrace(frames, RTE_DIM(frames)) : 0, i, k;
 	char call[CALL_TEXT];
@@ -112,7 +49,7 @@ way_text(caller by, char *text)
 	for (k = i + 1; k < n && k <= i + MAX_CALLS; k++)
 		length += snprintf(text + length, PLACE_TEXT - length, "%s %s",
 			k == i + 1 ? "; called from" : ",",
-			call_text((uintptr_t)frames[k] - 1, call));
+			call_address_text((uintptr_t)frames[k] - 1, call));
 	return text;
 }
 
@@ -180,8 +117,8 @@ got_text(caller got, char *text)
 	if (got == 0)
 		snprintf(text, LAST_TEXT, "never got");
 	else
-		snprintf(text, LAST_TEXT, "got by %s at %s", guard_lcore_text(got, lcore),
-			guard_place_text(got, place));
+		snprintf(text, LAST_TEXT, "got by %s at %s", caller_lcore_text(got, lcore),
+			caller_place_text(got, place));
 	return text;
 }
 
@@ -195,8 +132,8 @@ put_text(caller put, char *text)
 	if (put == 0)
 		snprintf(text, LAST_TEXT, "another put it meanwhile");
 	else
-		snprintf(text, LAST_TEXT, "put before by %s at %s", guard_lcore_text(put, lcore),
-			guard_place_text(put, place));
+		snprintf(text, LAST_TEXT, "put before by %s at %s", caller_lcore_text(put, lcore),
+			caller_place_text(put, place));
 	return text;
 }
 
@@ -213,8 +150,8 @@ guard_log_not_out(struct guard_pool *p, uint32_t element, caller put, caller by)
 		return;
 	LOG(ERR, p,
 		"%s %p (element %" PRIu32 ") is put by %s at %s and isn't out: %s, %s%s%s",
-		kind_of(p->mp), p->objects[element], p->numbers[element], guard_lcore_text(by, lcore),
-		guard_place_text(by, place), put_text(put, put_before), got_text(got, got_before),
+		kind_of(p->mp), p->objects[element], p->numbers[element], caller_lcore_text(by, lcore),
+		caller_place_text(by, place), put_text(put, put_before), got_text(got, got_before),
 		got != 0 ? ", or its old owner freed it late" : "", way_text(by, way));
 }
 
@@ -236,8 +173,8 @@ guard_log_late(struct guard_pool *p, uint32_t element)
 		LOG(ERR, p,
 			"%s %p (element %" PRIu32 ") was put by %s at %s while it was in the pool, or by "
 			"another if it was given again since: %s",
-			kind_of(p->mp), p->objects[element], p->numbers[element], guard_lcore_text(past.put, lcore),
-			guard_place_text(past.put, place), got_text(past.got, got));
+			kind_of(p->mp), p->objects[element], p->numbers[element], caller_lcore_text(past.put, lcore),
+			caller_place_text(past.put, place), got_text(past.got, got));
 }
 
 void
@@ -247,7 +184,7 @@ guard_log_stranger(struct guard_pool *p, const void *object, caller by)
 
 	if (take_line_of_put(p))
 		LOG(ERR, p, "object %p is none of this pool: put by %s at %s%s", object,
-			guard_lcore_text(by, lcore), guard_place_text(by, place),
+			caller_lcore_text(by, lcore), caller_place_text(by, place),
 			way_text(by, way));
 }
 

@@ -9,25 +9,9 @@
 #include <rte_mempool.h>
 #include <rte_spinlock.h>
 
+#include "call_places.h"
 #include "mbufpool.h"
 #include "object_numbers.h"
-
-#define MAX_CALLS 4	/* on the way to a get or a put */
-#define CALL_TEXT 96	/* bytes of an address as text */
-#define PLACE_TEXT 512	/* of a place in the code, with the calls on the way to it */
-
-/* Who calls, and where, as one number that isn't 0: the lcore and 2, or 1 for a thread without one,
- * above 16 bits of the number that the place in the code has (guard_way.c). */
-typedef uint32_t caller;
-
-#define WAY_BITS 16
-#define MAX_WAYS (UINT32_C(1) << WAY_BITS)
-
-static __rte_always_inline caller
-caller_of(unsigned int lcore, uint32_t way)
-{
-	return (caller)(lcore == LCORE_ID_ANY ? 1 : lcore + 2) << WAY_BITS | way;
-}
 
 /* Who put an element last, or 0 while it is out; and who got it last, or 0 where nobody has. What was
  * put last is in the pool: a put notes itself before it asks the library, and a get behind that. */
@@ -137,19 +121,7 @@ uint32_t guard_way_to(const void *return_address);
 /* How many calls on the way are noted, as the environment asks. */
 extern unsigned int guard_calls;
 
-/* The addresses of a way, 0 behind the last: of the place itself, and of the calls on the way to it. NULL
- * for 0, and for one that this thread doesn't see yet. */
-const uintptr_t *guard_way_calls(uint32_t way);
-
 /* ---- guard_log.c ---- */
-
-/* Writes a place in the code as MODULE+0xOFFSET, as addr2line -e MODULE 0xOFFSET takes it, into
- * PLACE_TEXT bytes, and answers them; where calls are noted, those on the way to it behind it, as
- * "app+0x8aa8 (app+0x273b, app+0x2401)". */
-const char *guard_place_text(caller by, char *text);
-
-/* Writes "lcore 3" or "no lcore" into CALL_TEXT bytes, and answers them. */
-const char *guard_lcore_text(caller by, char *text);
 
 /* Each of these is one line at most. */
 void guard_log_not_out(struct guard_pool *p, uint32_t element, caller put, caller by);

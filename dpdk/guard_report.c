@@ -175,7 +175,7 @@ mbufpool_guard_report(FILE *out, const struct rte_mempool *mp)
 		late_text(p, late));
 	for (i = 0; i < t.count; i++)
 		fprintf(out, "%7" PRIu32 "  %s  %s\n", t.all[i].objects,
-			guard_lcore_text(t.all[i].by, lcore), guard_place_text(t.all[i].by, place));
+			caller_lcore_text(t.all[i].by, lcore), caller_place_text(t.all[i].by, place));
 	free(t.all);
 	return written(out);
 }
@@ -195,7 +195,7 @@ mbufpool_guard_list(FILE *out, const struct rte_mempool *mp, unsigned int most)
 		if (by == 0)
 			continue;
 		fprintf(out, "element %" PRIu32 "  %p  %s  %s\n", p->numbers[element], p->objects[element],
-			guard_lcore_text(by, lcore), guard_place_text(by, place));
+			caller_lcore_text(by, lcore), caller_place_text(by, place));
 		most--;
 	}
 	return written(out);
@@ -245,8 +245,8 @@ tell_tallies(const struct tallies *t, struct rte_tel_data *lines, uint64_t *rest
 			continue;
 		}
 		snprintf(line, sizeof(line), "%" PRIu32 "  %s  %s", t->all[i].objects,
-			guard_lcore_text(t->all[i].by, lcore),
-			guard_place_text(t->all[i].by, place));
+			caller_lcore_text(t->all[i].by, lcore),
+			caller_place_text(t->all[i].by, place));
 		rte_tel_data_add_array_string(lines, line);
 	}
 }

@@ -16,6 +16,7 @@
 #include <rte_build_config.h>
 #include <rte_bus_vdev.h>
 #include <rte_common.h>
+#include <rte_eal.h>
 #include <rte_log.h>
 #include <rte_mempool.h>
 
@@ -47,15 +48,39 @@ log_missing(const char *name)
 		RTE_MEMPOOL_MAX_OPS_IDX);
 }
 
+static inline int
+is_asked_for(const char *name)
+{
+	const char *asked = rte_eal_mbuf_user_pool_ops();
+
+	return asked != NULL && strcmp(asked, name) == 0;
+}
+
+/* How many places a handler leaves to others of ours that may come later. Where EAL's --mbuf-pool-ops-name asks
+ * for the watch, one to that, and one to the handler that it most often wraps; else the watch, which nobody may
+ * want, leaves them to the two others. */
+static inline unsigned int
+places_to_leave(const char *name)
+{
+	int is_watch = strcmp(name, "mbufpool_watch") == 0;
+
+	if (is_asked_for(name))
+		return 0;
+	if (is_asked_for("mbufpool_watch"))
+		return !is_registered("mbufpool_watch") +
+		       (strcmp(name, "mbufpool") != 0 && !is_registered("mbufpool"));
+	return is_watch ? !is_registered("mbufpool") + !is_registered("mbufpool_guard") : 0;
+}
+
 /* Registers a handler once, where there is room for it. */
 static inline void
 register_handler(const struct rte_mempool_ops *ops)
 {
 	if (is_registered(ops->name))
 		return;
-	if (rte_mempool_ops_table.num_ops < RTE_MEMPOOL_MAX_OPS_IDX)
+	if (rte_mempool_ops_table.num_ops + places_to_leave(ops->name) < RTE_MEMPOOL_MAX_OPS_IDX)
 		rte_mempool_register_ops(ops);
-	else
+	else if (strcmp(ops->name, "mbufpool_watch") != 0 || is_asked_for(ops->name))
 		log_missing(ops->name);
 }
 
