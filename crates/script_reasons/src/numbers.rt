@@ -24,7 +24,7 @@ pub(crate) fn number_fault(word: &[u8]) -> WordFault {
 }
 
 /// The range of a number, and what it is a number of.
-#[derive(Clone, Copy, PartialEq, Eq, Debug)]
+#[derive(Clone, Copy)]
 pub(crate) struct Range {
     pub what: &'static str,
     pub least: u64,

@@ -15,7 +15,7 @@ use script_text::pool_line::{NONE_GIVEN, Settings, is_pool_word, key_of};
 const MAX_RULE: u64 = 1;
 
 /// A key with its number, as they stand on the pool line, and the words behind them.
-#[derive(Clone, Copy, PartialEq, Eq, Debug)]
+#[derive(Clone, Copy)]
 struct Pair<'a> {
     key: Key,
     key_word: Word<'a>,
@@ -49,7 +49,7 @@ fn pair_of<'a>(words: Words<'a>) -> Result<Option<Pair<'a>>, Wrong<'a>>
 }
 
 /// The number of elements that the pool line begins with.
-#[derive(Clone, Copy, PartialEq, Eq, Debug)]
+#[derive(Clone, Copy)]
 struct Population<'a> {
     value: u64,
     word: Word<'a>,
@@ -146,7 +146,7 @@ pub(crate) fn in_limits<'a>(line: &'a [u8]) -> Wrong<'a> {
 }
 
 /// A cache, and the elements of its pool.
-#[derive(Clone, Copy, PartialEq, Eq, Debug)]
+#[derive(Clone, Copy)]
 struct Cache<'a> {
     what: &'static str,
     word: Word<'a>,

@@ -11,7 +11,7 @@ use script_text::step_line::element_of;
 const MAX_SHORT: u64 = 65_535;
 
 /// What a word is to be.
-#[derive(Clone, Copy, PartialEq, Eq, Debug)]
+#[derive(Clone, Copy)]
 pub(crate) enum Place {
     /// A packet's name.
     Name,
@@ -28,7 +28,7 @@ pub(crate) enum Place {
 }
 
 /// Words of one kind at the end of a line, 1 to so many.
-#[derive(Clone, Copy, PartialEq, Eq, Debug)]
+#[derive(Clone, Copy)]
 pub(crate) struct Many {
     pub place: Place,
     pub most: usize,
@@ -36,7 +36,7 @@ pub(crate) struct Many {
 }
 
 /// Which words stand behind a first word, and how such a line is written.
-#[derive(Clone, Copy, PartialEq, Eq, Debug)]
+#[derive(Clone, Copy)]
 pub(crate) struct Shape {
     pub usage: &'static str,
     pub places: &'static [Place],

@@ -9,7 +9,7 @@ use crate::words::Wrong;
 use script_text::line::{MAX_LINE, is_printed, is_skipped, next_line};
 
 /// A line of a text, and the text in front of it.
-#[derive(Clone, Copy, PartialEq, Eq, Debug)]
+#[derive(Clone, Copy)]
 pub(crate) struct Numbered<'a> {
     pub before: &'a [u8],
     pub line: &'a [u8],

@@ -6,14 +6,14 @@ use crate::reason::{Explanation, Reason};
 use script_text::line::next_word;
 
 /// A word, and the column in which it begins, from 1.
-#[derive(Clone, Copy, PartialEq, Eq, Debug)]
+#[derive(Clone, Copy)]
 pub(crate) struct Word<'a> {
     pub column: usize,
     pub text: &'a [u8],
 }
 
 /// A column, from 1, and what is wrong there.
-#[derive(Clone, Copy, PartialEq, Eq, Debug)]
+#[derive(Clone, Copy)]
 pub(crate) struct Wrong<'a> {
     pub column: usize,
     pub reason: Reason<'a>,
@@ -43,7 +43,7 @@ impl<'a> Word<'a> {
 }
 
 /// The words of a line that are left.
-#[derive(Clone, Copy, PartialEq, Eq, Debug)]
+#[derive(Clone, Copy)]
 pub(crate) struct Words<'a> {
     line: &'a [u8],
     rest: &'a [u8],

@@ -6,7 +6,7 @@ use crate::words::{Word, Words, Wrong};
 use script_text::worker_command::prefix_of;
 
 /// Whose line it is, and the words that say what is to be done.
-#[derive(Clone, Copy, PartialEq, Eq, Debug)]
+#[derive(Clone, Copy)]
 pub(crate) struct OfWorker<'a> {
     pub worker: u64,
     pub verb: Word<'a>,

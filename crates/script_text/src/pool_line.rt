@@ -160,7 +160,7 @@ impl Settings {
 }
 
 /// The numbers that a pool line gives to one pool: those that stand there, and the defaults.
-#[derive(Clone, Copy, PartialEq, Eq, Debug)]
+#[derive(Clone, Copy)]
 pub(crate) struct PoolNumbers {
     population: u64,
     cache: u64,
@@ -219,7 +219,7 @@ impl PoolNumbers {
 }
 
 /// The numbers that a pool line gives to each pool.
-#[derive(Clone, Copy, PartialEq, Eq, Debug)]
+#[derive(Clone, Copy)]
 pub(crate) struct LineNumbers {
     first: PoolNumbers,
     second: Option<PoolNumbers>,

@@ -21,7 +21,7 @@ use std::alloc::{AllocError, AllocFailed, Global};
 pub const MAX_COMMANDS: usize = 10_000;
 
 /// Why a line wasn't read.
-#[derive(Clone, Copy, PartialEq, Eq, Debug)]
+#[derive(Clone, Copy)]
 pub(crate) enum Stop {
     /// The line isn't in the grammar where it stands.
     Fault,

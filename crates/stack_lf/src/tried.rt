@@ -3,7 +3,7 @@
 use commons::refusal::Refusal;
 
 /// What one try came to.
-#[derive(Clone, Copy, PartialEq, Eq)]
+#[derive(Clone, Copy)]
 pub(crate) enum Tried {
     /// Its exchange won.
     Won,
