@@ -11,7 +11,6 @@ use script::{replay, run_replay, run_replay_json, statement_json, statement_text
 use script_rows::parts::written;
 use script_rows::{built, caches, desks, packets, pools, sharing, twins as foreign};
 use script_text::parse;
-use serde_json::Value;
 use share_book::TwinAct;
 use statement_text::pool_text;
 use std::alloc::Global;
@@ -110,9 +109,8 @@ struct Places {
 /// A name, a statement, and its text.
 type StatementRow = (&'static str, Places, &'static str);
 
-/// A name, a script, the JSON of its end without its line end, and the population of the first pool
-/// in it.
-type JsonRow = (&'static str, &'static str, &'static str, u64);
+/// A name, a script, and the JSON of its end without its line end.
+type JsonRow = (&'static str, &'static str, &'static str);
 
 /// The limits of a pool line that says no more than one element.
 const DEFAULTS: Limits = Limits {
@@ -243,19 +241,11 @@ fn each_statement_prints_its_text(rt: HostRuntime) -> Result<(), Fail> {
     Ok(())
 }
 
-/// The population that a reader of JSON finds, of two pools that of the first.
-fn population_in(alloc: Global, json: &str) -> Result<Option<u64>, Fail> {
-    let settled = Value::from_str(alloc, json)?;
-    let statement = settled.get("first").unwrap_or(&settled);
-    Ok(statement.get("population").and_then(Value::as_u64))
-}
-
-/// A script prints this line, its end does, and a reader finds this population in it.
+/// A script prints this line, and its end does.
 fn print_json_line<R: Abort + AllocGlobal>(
     rt: &R,
     script: &str,
     line: &str,
-    population: u64,
     name: &str,
 ) -> Result<(), Fail> {
     let whole = String::from_utf8(run_replay_json(rt.alloc(), script.as_bytes())?)?;
@@ -263,22 +253,14 @@ fn print_json_line<R: Abort + AllocGlobal>(
     let end = String::from_utf8(statement_json(rt.alloc(), &settled)?)?;
     same(rt, &("at once", whole.as_str()), &("at once", line), name);
     same(rt, &("its end", end.as_str()), &("its end", line), name);
-    let found = population_in(rt.alloc(), whole.as_str())?;
-    let wanted = Some(population);
-    same(
-        rt,
-        &("its population", found),
-        &("its population", wanted),
-        name,
-    );
     Ok(())
 }
 
 #[test]
 fn each_script_prints_its_json(rt: HostRuntime) -> Result<(), Fail> {
-    for (name, script, json, population) in json::ROWS {
+    for (name, script, json) in json::ROWS {
         let line = format!(in rt.alloc(); "{json}\n")?;
-        print_json_line(&rt, script, line.as_str(), *population, name)?;
+        print_json_line(&rt, script, line.as_str(), name)?;
     }
     Ok(())
 }

@@ -135,7 +135,7 @@ fn a_script_that_ends_alike_in_each_order_ends_on_either_ground_as_its_replay(
             ended = ended.saturating_add(usize::from(ends_alike(&rt, text, name)?));
         }
     }
-    for (name, text, _, _) in json::ROWS {
+    for (name, text, _) in json::ROWS {
         ended = ended.saturating_add(usize::from(ends_alike(&rt, text, name)?));
     }
     same(&rt, &ended, &ALIKE.len(), "how many end alike");
