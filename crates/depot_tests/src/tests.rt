@@ -3,6 +3,7 @@
 ghost use Rattle.std.specs.Prelude.{◌≡◌, ◌≤◌, length};
 ghost use Rattle.depot.specs.Lending.{AreOf, IsWorker};
 
+use crate::equal::same;
 use depot::cause::{Cause, Refusal};
 use depot::depot::Depot;
 use depot::loans::Loans;
@@ -83,14 +84,19 @@ fn lists_of_any_length_are_got_and_put(rt: HostRuntime) -> Result<(), Fail> {
     let after = worker.count();
     worker.end(&depot);
     assert!(rt; filled.is_ok());
-    assert!(rt; before == 3000);
-    assert!(rt; one == Ok(1));
-    assert!(rt; below == Ok(127));
-    assert!(rt; whole == Ok(128));
-    assert!(rt; above == Ok(129));
-    assert!(rt; some == Ok(300));
-    assert!(rt; many == Ok(1000));
-    assert!(rt; after == 3000);
+    same(&rt, &(before, after), &(3000, 3000), "before and after");
+    same(
+        &rt,
+        &[one, below, whole],
+        &[Ok(1), Ok(127), Ok(128)],
+        "a magazine, or less",
+    );
+    same(
+        &rt,
+        &[above, some, many],
+        &[Ok(129), Ok(300), Ok(1000)],
+        "more than a magazine",
+    );
     Ok(())
 }
 
@@ -116,11 +122,11 @@ fn a_refused_get_changes_nothing(rt: HostRuntime) -> Result<(), Fail> {
     let none = worker.get_one(&depot, &mut loans);
     worker.end(&depot);
     assert!(rt; filled.is_ok());
-    assert!(rt; refused == Err(Cause::NoEntries));
-    assert!(rt; count == 500);
+    same(&rt, &refused, &Err(Cause::NoEntries), "refused");
+    same(&rt, &count, &500, "count");
     assert!(rt; all.is_ok());
     assert!(rt; seen.iter().all(|times: &u32| *times == 1));
-    assert!(rt; none == Err(Cause::NoEntries));
+    same(&rt, &none, &Err(Cause::NoEntries), "none");
     Ok(())
 }
 
@@ -195,9 +201,9 @@ fn a_small_pool_keeps_nothing_with_its_workers(rt: HostRuntime) -> Result<(), Fa
     assert!(rt; filled.is_ok());
     assert!(rt; others.is_ok());
     assert!(rt; put.is_ok());
-    assert!(rt; at_hand == None);
+    same(&rt, &at_hand, &None, "at_hand");
     assert!(rt; again.is_ok());
-    assert!(rt; counts == 0);
+    same(&rt, &counts, &0, "counts");
     Ok(())
 }
 
@@ -258,11 +264,11 @@ fn lists_at_hand_are_got_and_put(rt: HostRuntime) -> Result<(), Fail> {
     tally(&every, &mut seen);
     other.end(&depot);
     worker.end(&depot);
-    assert!(rt; none == None);
+    same(&rt, &none, &None, "none");
     assert!(rt; filled.is_ok());
-    assert!(rt; one == Some(true));
+    same(&rt, &one, &Some(true), "one");
     assert!(rt; nothing && few && burst && most);
-    assert!(rt; count == 100);
+    same(&rt, &count, &100, "count");
     assert!(rt; all.is_ok());
     assert!(rt; seen.iter().all(|times: &u32| *times == 1));
     Ok(())
@@ -313,7 +319,7 @@ fn what_one_puts_another_gets_once(rt: HostRuntime) -> Result<(), Fail> {
     let mut first = match depot.worker(rt.alloc(), &mut loans) {
         Ok(first) => first,
         Err(refusal) => {
-            assert!(rt; refusal == Refusal::Memory, "{refusal:?}");
+            same(&rt, &refusal, &Refusal::Memory, "refusal");
             return Ok(());
         }
     };
@@ -321,7 +327,7 @@ fn what_one_puts_another_gets_once(rt: HostRuntime) -> Result<(), Fail> {
         Ok(second) => second,
         Err(refusal) => {
             first.lose();
-            assert!(rt; refusal == Refusal::Memory, "{refusal:?}");
+            same(&rt, &refusal, &Refusal::Memory, "refusal");
             return Ok(());
         }
     };
@@ -333,10 +339,15 @@ fn what_one_puts_another_gets_once(rt: HostRuntime) -> Result<(), Fail> {
     first.lose();
     second.lose();
     assert!(rt; filled.is_ok());
-    assert!(rt; cause == Some(Cause::NoEntries));
+    same(&rt, &cause, &Some(Cause::NoEntries), "cause");
     let once = seen.iter().filter(|times: &&u32| **times == 1).count();
-    assert!(rt; once == 1000);
-    assert!(rt; lists.saturating_add(singles).saturating_add(own) == 1000);
+    same(&rt, &once, &1000, "once");
+    same(
+        &rt,
+        &lists.saturating_add(singles).saturating_add(own),
+        &1000,
+        "all that was got",
+    );
     Ok(())
 }
 
@@ -362,7 +373,12 @@ fn a_magazine_that_serves_no_worker_goes_back(rt: HostRuntime) -> Result<(), Fai
     let filled = fill(&depot, 24, &mut first, &mut loans);
     first.lose();
     assert!(rt; filled.is_ok());
-    assert!(rt; refused == Some(Refusal::Cause(Cause::NoMagazine)));
+    same(
+        &rt,
+        &refused,
+        &Some(Refusal::Cause(Cause::NoMagazine)),
+        "refused",
+    );
     Ok(())
 }
 
@@ -385,7 +401,7 @@ fn a_depot_is_as_large_as_its_row_says(rt: HostRuntime) {
             rounds,
             leaves_nothing,
         };
-        assert!(rt; size_for(values, workers) == Some(size), "{values}");
+        same(&rt, &size_for(values, workers), &Some(size), "a size");
     }
     assert!(rt; size_for(8_387_840, 1).is_none());
     assert!(rt; size_for(64, 0).is_none());

@@ -4,6 +4,7 @@ ghost use Rattle.std.specs.Prelude.{◌≡◌, ◌≤◌, ◌<◌, length, IfOk}
 ghost use Rattle.depot.specs.Rolls.{IsRoll};
 ghost use Rattle.guard.specs.Guards.{IsGuard};
 
+use crate::equal::same;
 use depot::cause::{Cause, Refusal};
 use depot::depot::Depot;
 use depot::opening::Size;
@@ -119,7 +120,7 @@ fn what_is_not_out_is_not_put(rt: HostRuntime) -> Result<(), Fail> {
     let (depot, mut first, mut second) = match pair(rt.alloc(), 1000, eights(140), keeping) {
         Ok(made) => made,
         Err(refusal) => {
-            assert!(rt; refusal == Refusal::Memory, "{refusal:?}");
+            same(&rt, &refusal, &Refusal::Memory, "refusal");
             return Ok(());
         }
     };
@@ -158,15 +159,20 @@ fn what_is_not_out_is_not_put(rt: HostRuntime) -> Result<(), Fail> {
         Ok(()),
         Err(NotPut::Home),
     ];
-    assert!(rt; answers == expected, "{answers:?}");
-    assert!(rt; own.saturating_add(others) == 1000, "{own} {others}");
+    same(&rt, &answers, &expected, "answers");
+    same(&rt, &own.saturating_add(others), &1000, "got by both");
     assert!(rt; seen.iter().all(|times: &u32| *times == 1));
-    assert!(rt; stale == (Some(a), None), "{stale:?}");
-    assert!(rt; none.wrapping_add(1000) == 0, "{none}");
-    assert!(rt; once == 1000 && twice == 0, "{once} {twice}");
+    same(&rt, &stale, &(Some(a), None), "stale");
+    same(
+        &rt,
+        &none.wrapping_add(1000),
+        &0,
+        "the counts of both, and all elements",
+    );
+    same(&rt, &(once, twice), &(1000, 0), "put once, and twice");
     assert!(rt; thrice <= 32, "{thrice}");
     assert!(rt; flushed.is_ok());
-    assert!(rt; left == 1000, "{left}");
+    same(&rt, &left, &1000, "left");
     assert!(rt; last.iter().all(|times: &u32| *times == 1));
     Ok(())
 }
@@ -180,7 +186,7 @@ fn what_another_put_is_stale_in_each_order(rt: HostRuntime) -> Result<(), Fail> 
     let (depot, mut first, mut second) = match pair(rt.alloc(), 64, eights(24), keeping) {
         Ok(made) => made,
         Err(refusal) => {
-            assert!(rt; refusal == Refusal::Memory, "{refusal:?}");
+            same(&rt, &refusal, &Refusal::Memory, "refusal");
             return Ok(());
         }
     };
@@ -213,18 +219,25 @@ fn what_another_put_is_stale_in_each_order(rt: HostRuntime) -> Result<(), Fail> 
     let told_none = (first.next_stale(), second.next_stale());
     first.lose();
     second.lose();
-    assert!(rt; puts == [Ok(()), Ok(())], "{puts:?}");
-    assert!(rt; other != a && again == a, "{a} {other} {again}");
-    assert!(rt; told == (Some(a), None), "{told:?}");
-    assert!(rt; back == [Ok(()), Ok(())], "{back:?}");
-    assert!(rt; from_first == a, "{from_first}");
-    assert!(rt; told_second == (Some(a), None), "{told_second:?}");
-    assert!(rt; own == Ok(()) && own_again == a, "{own:?} {own_again}");
-    assert!(rt; late == [Ok(()), Err(NotPut::Home)], "{late:?}");
-    assert!(rt; told_none == (None, None), "{told_none:?}");
-    assert!(rt;
-        early == [Ok(()), Err(NotPut::Home), Err(NotPut::Home)],
-        "{early:?}"
+    same(&rt, &puts, &[Ok(()), Ok(())], "puts");
+    same(
+        &rt,
+        &(again, other == a),
+        &(a, false),
+        "got again, and another",
+    );
+    same(&rt, &told, &(Some(a), None), "told");
+    same(&rt, &back, &[Ok(()), Ok(())], "back");
+    same(&rt, &from_first, &a, "from_first");
+    same(&rt, &told_second, &(Some(a), None), "told_second");
+    same(&rt, &(own, own_again), &(Ok(()), a), "put, and got again");
+    same(&rt, &late, &[Ok(()), Err(NotPut::Home)], "late");
+    same(&rt, &told_none, &(None, None), "told_none");
+    same(
+        &rt,
+        &early,
+        &[Ok(()), Err(NotPut::Home), Err(NotPut::Home)],
+        "early",
     );
     Ok(())
 }
@@ -238,7 +251,7 @@ fn what_waits_is_given_when_nothing_else_is_there(rt: HostRuntime) -> Result<(),
     let (depot, mut worker, _roll) = match filled(rt.alloc(), 8, eights(8), keeping) {
         Ok(made) => made,
         Err(refusal) => {
-            assert!(rt; refusal == Refusal::Memory, "{refusal:?}");
+            same(&rt, &refusal, &Refusal::Memory, "refusal");
             return Ok(());
         }
     };
@@ -252,10 +265,10 @@ fn what_waits_is_given_when_nothing_else_is_there(rt: HostRuntime) -> Result<(),
     let none = worker.get_one(&depot);
     worker.lose();
     assert!(rt; got.is_ok() && rest.is_ok() && waited.is_ok());
-    assert!(rt; put == (4, Ok(())), "{put:?}");
+    same(&rt, &put, &(4, Ok(())), "put");
     assert!(rt; others.iter().all(|element: &u32| !four.contains(element)));
-    assert!(rt; again == four, "{again:?} {four:?}");
-    assert!(rt; none == Err(Cause::NoEntries), "{none:?}");
+    same(&rt, &again, &four, "again");
+    same(&rt, &none, &Err(Cause::NoEntries), "none");
     Ok(())
 }
 
@@ -268,7 +281,7 @@ fn a_list_stops_at_the_first_that_is_refused(rt: HostRuntime) -> Result<(), Fail
     let (depot, mut first, mut second) = match pair(rt.alloc(), 64, eights(24), keeping) {
         Ok(made) => made,
         Err(refusal) => {
-            assert!(rt; refusal == Refusal::Memory, "{refusal:?}");
+            same(&rt, &refusal, &Refusal::Memory, "refusal");
             return Ok(());
         }
     };
@@ -295,13 +308,13 @@ fn a_list_stops_at_the_first_that_is_refused(rt: HostRuntime) -> Result<(), Fail
     first.lose();
     second.lose();
     assert!(rt; got.is_ok());
-    assert!(rt; stopped == (2, Err(NotPut::Stranger)), "{stopped:?}");
+    same(&rt, &stopped, &(2, Err(NotPut::Stranger)), "stopped");
     assert!(rt; last.is_ok());
-    assert!(rt; rest == (17, Ok(())), "{rest:?}");
-    assert!(rt; too_many == Err(Cause::NoEntries), "{too_many:?}");
-    assert!(rt; flushed == (Ok(()), Ok(())));
+    same(&rt, &rest, &(17, Ok(())), "rest");
+    same(&rt, &too_many, &Err(Cause::NoEntries), "too_many");
+    same(&rt, &flushed, &(Ok(()), Ok(())), "flushed");
     assert!(rt; every.is_ok());
-    assert!(rt; sum == 2016, "{sum}");
+    same(&rt, &sum, &2016, "sum");
     Ok(())
 }
 
@@ -320,7 +333,7 @@ fn a_full_list_refuses_where_the_depot_does(rt: HostRuntime) -> Result<(), Fail>
     let (depot, mut first, mut roll) = match make_guarded(rt.alloc(), 4, size, keeping, 100) {
         Ok(made) => made,
         Err(refusal) => {
-            assert!(rt; refusal == Refusal::Memory, "{refusal:?}");
+            same(&rt, &refusal, &Refusal::Memory, "refusal");
             return Ok(());
         }
     };
@@ -330,7 +343,7 @@ fn a_full_list_refuses_where_the_depot_does(rt: HostRuntime) -> Result<(), Fail>
         Ok(second) => second,
         Err(refusal) => {
             first.lose();
-            assert!(rt; refusal == Refusal::Memory, "{refusal:?}");
+            same(&rt, &refusal, &Refusal::Memory, "refusal");
             return Ok(());
         }
     };
@@ -340,7 +353,7 @@ fn a_full_list_refuses_where_the_depot_does(rt: HostRuntime) -> Result<(), Fail>
         Err(refusal) => {
             first.lose();
             second.lose();
-            assert!(rt; refusal == Refusal::Memory, "{refusal:?}");
+            same(&rt, &refusal, &Refusal::Memory, "refusal");
             return Ok(());
         }
     };
@@ -349,7 +362,7 @@ fn a_full_list_refuses_where_the_depot_does(rt: HostRuntime) -> Result<(), Fail>
     let last = second.put_one(&depot, four[3]);
     first.lose();
     second.lose();
-    assert!(rt; put == (3, Err(NotPut::Full(Cause::NoMagazine))), "{put:?}");
-    assert!(rt; last == Ok(()), "{last:?}");
+    same(&rt, &put, &(3, Err(NotPut::Full(Cause::NoMagazine))), "put");
+    same(&rt, &last, &Ok(()), "last");
     Ok(())
 }
