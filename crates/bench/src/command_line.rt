@@ -14,10 +14,6 @@ use std::io::{Eprint, Print};
 /// What can be measured.
 #[derive(Clone, Copy)]
 pub enum Workload {
-    /// Audits of a large lawful snapshot, beside a plain pass over its words.
-    Audits,
-    /// The end of a large pool: close, deposits and settling.
-    Endings,
     /// Rounds over the words of a pool, by several threads.
     Words,
     /// A packet that two threads hand to one another.
@@ -26,17 +22,7 @@ pub enum Workload {
     Memory,
 }
 
-const WORKLOADS: [(Workload, &str, &str); 5] = [
-    (
-        Workload::Audits,
-        "audits",
-        "an audit of 65,534 elements, and a plain pass over the same words",
-    ),
-    (
-        Workload::Endings,
-        "endings",
-        "a pool of 65,534 elements is closed and settled",
-    ),
+const WORKLOADS: [(Workload, &str, &str); 3] = [
     (
         Workload::Words,
         "words",
@@ -61,7 +47,7 @@ pub struct Asked<'a> {
     pub workload: Option<Workload>,
     /// How many rounds a run has, where the words say so.
     pub rounds: Option<u64>,
-    /// Over how many runs the least is taken.
+    /// How many runs there are.
     pub runs: u64,
     /// What is measured of the words of a pool.
     pub cells: Cells<'a>,
@@ -145,10 +131,15 @@ fn command<'a>(alloc: Global) -> Result<Command<'a>, Error> {
         "What is measured; none: the list of workloads",
     );
     let bench = Command::new(alloc, "bench")
-        .about("Measures the words of a pool, and its end")
+        .about("Measures the words of a pool")
         .arg(workload)?
         .arg(whole(alloc, "rounds", 1_000_000_000, "How many rounds a run has"))?
-        .arg(whole(alloc, "runs", 1_000, "Of how many runs the least is told"))?;
+        .arg(whole(
+            alloc,
+            "runs",
+            1_000,
+            "How many runs there are, of which the median is told",
+        ))?;
     of_words(alloc, bench)
 }
 

@@ -1,8 +1,6 @@
 //! Why nothing was measured.
 
-use book::settling::Unsettled;
 use commons::refusal::Refusal;
-use snapshot::fault::Fault;
 use std::alloc::AllocError;
 use std::io;
 use std::io::Eprint;
@@ -14,10 +12,6 @@ pub enum Failure {
     System(io::Error),
     /// A pool could not be made, or its first packets.
     Refused(Refusal),
-    /// The snapshot that was to be audited isn't lawful, or memory was refused.
-    Unlawful(Fault),
-    /// A pool at its end isn't settled.
-    Unsettled(Unsettled),
     /// A name or a number of a list isn't one that can be measured.
     NotInList,
     /// This many elements aren't back in the common list at the end.
@@ -50,8 +44,6 @@ pub fn tell<R: Eprint>(rt: &R, failure: &Failure) -> u8 {
     let (told, status) = match failure {
         Failure::System(error) => (rt.eprintln(format_args!("bench: {error}")), 1),
         Failure::Refused(refusal) => (rt.eprintln(format_args!("bench: {refusal}")), 1),
-        Failure::Unlawful(fault) => (rt.eprintln(format_args!("bench: {fault:?}")), 1),
-        Failure::Unsettled(cause) => (rt.eprintln(format_args!("bench: {cause:?}")), 1),
         Failure::NotInList => (
             rt.eprintln(format_args!("bench: a list names what can't be measured")),
             2,

@@ -3,20 +3,12 @@
 use crate::failures::Failure;
 use std::fmt;
 use std::fmt::{Display, Formatter, Write};
-use std::io::Print;
 use std::time::{Clock, Instant};
 
 /// The nanoseconds since a moment.
 pub fn since<R: Clock>(rt: &R, start: Instant) -> Result<u64, Failure> {
     let nanos = start.elapsed(rt)?.as_nanos();
     Ok(u64::try_from(nanos).unwrap_or(u64::MAX))
-}
-
-/// Prints what a round takes, in nanoseconds with one decimal, where all of them take this many.
-pub fn print_each<R: Print>(rt: &R, name: &str, nanos: u64, rounds: u64) -> Result<(), Failure> {
-    let tenths = u128::from(nanos) * 10 / u128::from(rounds.max(1));
-    let (whole, tenth) = (tenths / 10, tenths % 10);
-    Ok(rt.println(format_args!("{name:<52} {whole:>8}.{tenth} ns"))?)
 }
 
 /// The figure at a place, or 0 where there is none.

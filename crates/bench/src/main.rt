@@ -1,14 +1,11 @@
-//! Measures the words of a pool, and its end: `bench WORKLOAD [--rounds N] [--runs R]`.
+//! Measures the words of a pool: `bench WORKLOAD [--rounds N] [--runs R]`.
 #![tactic(auto)]
 
-mod audits;
 mod command_line;
-mod endings;
 mod failures;
 mod figures;
 mod handovers;
 mod memory;
-mod pools;
 mod words;
 
 use command_line::{Asked, Workload};
@@ -46,8 +43,6 @@ fn measure<R: Runtime + AllocGlobal + Threads + Sync>(
 ) -> Result<(), Failure> {
     match asked.workload {
         None => command_line::list(rt),
-        Some(Workload::Audits) => audits::measure(rt, asked.rounds, asked.runs),
-        Some(Workload::Endings) => endings::measure(rt, asked.rounds, asked.runs),
         Some(Workload::Words) => words::measure(rt, &asked.cells, asked.rounds, asked.runs),
         Some(Workload::Handovers) => {
             handovers::measure(rt, asked.cells.millis, asked.rounds, asked.runs)
