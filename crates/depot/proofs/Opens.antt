@@ -291,29 +291,35 @@ run-in a n xs is i h k =
     let e = ap (λ ys. bag ys i) is in let f = range-from a n i in
     let g = below-at (a + n) i k in let l = below-past a i h in omega arith
 
--- what is left to put, once a run of it has been put
-pub left-to-put : (a n p : ℕ) (xs : List ℕ) (had has : ℕ → ℕ) → xs ≡ range_with_len a n →
-    ((i : ℕ) → a ≤ i → i < p → 1 ≤ had i) → ((i : ℕ) → has i + bag xs i ≡ had i) →
-    (i : ℕ) → a + n ≤ i → i < p → 1 ≤ has i
-left-to-put a n p xs had has is before put i h k =
-    let e = run-high a n xs is i h in let f = before i (omega arith) k in let g = put i in omega arith
-
-pub run-lent : (a n p : ℕ) (xs : List ℕ) (had : ℕ → ℕ) → xs ≡ range_with_len a n → a + n ≤ p →
-    ((i : ℕ) → a ≤ i → i < p → 1 ≤ had i) → (i : ℕ) → bag xs i ≤ had i
-run-lent a n p xs had is within before i = ⊎_elim
+-- a run of what hasn't been put yet is lent
+pub run-lent : (a n p : ℕ) (xs : List ℕ) (had first : ℕ → ℕ) → xs ≡ range_with_len a n → a + n ≤ p →
+    ((i : ℕ) → i < p → 1 ≤ first i) → ((i : ℕ) → a ≤ i → had i ≡ first i) → (i : ℕ) → bag xs i ≤ had i
+run-lent a n p xs had first is within all before i = ⊎_elim
     (λ (h : i < a). let e = run-low a n xs is i h in omega arith)
     (λ (h : a ≤ i). ⊎_elim
-    (λ (k : i < a + n). let e = run-few a n xs is i in let f = before i h (omega arith) in omega arith)
+    (λ (k : i < a + n).
+    let e = run-few a n xs is i in let f = before i h in let g = all i (omega arith) in omega arith)
     (λ (k : a + n ≤ i). let e = run-high a n xs is i k in omega arith)
     (cases_lt i (a + n)))
     (cases_lt i a)
 
--- what is beyond stays as it was
-pub others-stay : (a n p : ℕ) (xs : List ℕ) (had has first : ℕ → ℕ) → xs ≡ range_with_len a n → a + n ≤ p →
-    ((i : ℕ) → p ≤ i → had i ≡ first i) → ((i : ℕ) → has i + bag xs i ≡ had i) →
-    (i : ℕ) → p ≤ i → has i ≡ first i
-others-stay a n p xs had has first is within before put i h =
-    let e = run-high a n xs is i (omega arith) in let f = before i h in let g = put i in omega arith
+-- once a run has been put, it is lent once less, as is what was put before
+pub put-so-far : (a n : ℕ) (xs : List ℕ) (had has first : ℕ → ℕ) → xs ≡ range_with_len a n →
+    ((i : ℕ) → i < a → had i + 1 ≡ first i) → ((i : ℕ) → a ≤ i → had i ≡ first i) →
+    ((i : ℕ) → has i + bag xs i ≡ had i) → (i : ℕ) → i < a + n → has i + 1 ≡ first i
+put-so-far a n xs had has first is done before put i h = ⊎_elim
+    (λ (k : i < a).
+    let e = run-low a n xs is i k in let f = done i k in let g = put i in omega arith)
+    (λ (k : a ≤ i).
+    let e = run-in a n xs is i k h in let f = before i k in let g = put i in omega arith)
+    (cases_lt i a)
+
+-- what is behind it stays as it was
+pub others-stay : (a n : ℕ) (xs : List ℕ) (had has first : ℕ → ℕ) → xs ≡ range_with_len a n →
+    ((i : ℕ) → a ≤ i → had i ≡ first i) → ((i : ℕ) → has i + bag xs i ≡ had i) →
+    (i : ℕ) → a + n ≤ i → has i ≡ first i
+others-stay a n xs had has first is before put i h =
+    let e = run-high a n xs is i h in let f = before i (omega arith) in let g = put i in omega arith
 
 zero-last : (n : ℕ) → zeros n ++ 0 ∷ [] ≡ zeros (suc n)
 zero-last zero = refl

@@ -275,6 +275,8 @@ pub fn fill(
     requires all { (i : ℕ) → i < population → 1 ≤ bag (elements loans.old) i }
     ensures of { IsWorker depot.now worker.new }
     ensures loans { AreOf depot.now loans.new }
+    ensures put { IfOk result (λ _. (i : ℕ) → i < population →
+        bag (elements loans.new) i + 1 ≡ bag (elements loans.old) i) }
     ensures others { (i : ℕ) → population ≤ i →
         bag (elements loans.new) i ≡ bag (elements loans.old) i }
 {
