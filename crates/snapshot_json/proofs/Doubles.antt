@@ -114,6 +114,37 @@ still-once common places k population i were l known new so = elim (same_or_not 
   | inr n ↦ omega (arith, same-times common k i l n, so)
 ]
 
+-- an element that stands in a list is counted
+bag-at : (xs : List ℕ) (k e : ℕ) → k < length xs → get_or xs k 0 ≡ e → 1 ≤ bag xs e
+bag-at xs k e l is =
+    let at : bag (take (k + 1) xs) (get_or xs k 0) ≡ bag (take k xs) (get_or xs k 0) + one (get_or xs k 0) (get_or xs k 0) =
+    bag-suc xs k (get_or xs k 0) l in
+    let here : 1 ≤ bag xs (get_or xs k 0) =
+    omega (arith, at, one-same (get_or xs k 0), bag-take-le (k + 1) xs (get_or xs k 0)) in
+    subst (λ (i : ℕ). 1 ≤ bag xs i) is here
+
+-- an element that stands at two places is counted twice
+twice-at : (xs : List ℕ) (e i j : ℕ) → i < j → j < length xs → get_or xs i 0 ≡ e → get_or xs j 0 ≡ e → 2 ≤ bag xs e
+twice-at xs e i j order within at_first at_second =
+    let old : length (take j xs) ≡ j = length-take-le j xs (omega (arith, within)) in
+    let a : get_or (take j xs) i 0 ≡ e = get_or-take j xs i 0 order ∙ at_first in
+    let before : 1 ≤ bag (take j xs) e = bag-at (take j xs) i e (omega (arith, order, old)) a in
+    let at : bag (take (j + 1) xs) e ≡ bag (take j xs) e + one (get_or xs j 0) e = bag-suc xs j e within in
+    let one_more : one (get_or xs j 0) e ≡ 1 =
+    ap (λ (i : ℕ). one i e) at_second ∙ one-same e in
+    omega (arith, before, at, one_more, bag-take-le (j + 1) xs e)
+
+-- one that is counted once stands at one place
+one-place : (xs : List ℕ) (e i j : ℕ) → bag xs e ≤ 1 → i < length xs → j < length xs → get_or xs i 0 ≡ e →
+    get_or xs j 0 ≡ e → i ≡ j
+one-place xs e i j once li lj ai aj = elim (cases_lt i j) [
+  | inl h ↦ absurd (omega (arith, once, twice-at xs e i j h lj ai aj))
+  | inr h ↦ elim (cases_lt j i) [
+    | inl g ↦ absurd (omega (arith, once, twice-at xs e j i g li aj ai))
+    | inr g ↦ omega arith
+  ]
+]
+
 -- one that stands twice does so with one element more
 still-double : (common : List ℕ) (k elem first second : ℕ) → k < length common →
     IsLeastDouble (take k common) elem first second →
@@ -133,6 +164,11 @@ still-double common k elem first second l so least =
       within = omega (arith, below, new);
       at_first = a ∙ so.at_first;
       at_second = b ∙ so.at_second;
+      first_two = λ p low at.
+          let here : p < k = omega (arith, low, below) in
+          let c : get_or (take (k + 1) common) p 0 ≡ get_or (take k common) p 0 =
+          get_or-take (k + 1) common p 0 (omega (arith, here)) ∙ sym (get_or-take k common p 0 here) in
+          so.first_two p low (sym c ∙ at);
       least = least;
     }
 
@@ -140,9 +176,9 @@ still-double common k elem first second l so least =
 new-double : (common places : List ℕ) (k population b elem first second : ℕ) → AreFirst common k population places →
     k < length common → get_or common k 0 < population → get_or places (get_or common k 0) 0 ≡ suc b →
     elem ≡ get_or common k 0 → first ≡ b → second ≡ k →
-    ((i : ℕ) → i < elem → bag (take k common) i ≤ 1) →
+    ((i : ℕ) → i < elem → bag (take k common) i ≤ 1) → bag (take k common) (get_or common k 0) ≤ 1 →
     IsLeastDouble (take (k + 1) common) elem first second
-new-double common places k population b elem first second were l known old is fi se once =
+new-double common places k population b elem first second were l known old is fi se once alone =
     let e = get_or common k 0 in
     let low : b < k = omega (arith, were.low e known, old) in
     let new : length (take (k + 1) common) ≡ k + 1 = length-take-le (k + 1) common (omega arith) in
@@ -155,6 +191,13 @@ new-double common places k population b elem first second were l known old is fi
       within = omega (arith, new, se);
       at_first = ap (λ (j : ℕ). get_or (take (k + 1) common) j 0) fi ∙ a ∙ were.first e b known old ∙ sym is;
       at_second = ap (λ (j : ℕ). get_or (take (k + 1) common) j 0) se ∙ c ∙ sym is;
+      first_two = λ p below at.
+          let here : p < k = omega (arith, below, se) in
+          let len : length (take k common) ≡ k = length-take-le k common (omega arith) in
+          let x : get_or (take k common) p 0 ≡ e =
+          get_or-take k common p 0 here ∙ sym (get_or-take (k + 1) common p 0 (omega (arith, here))) ∙ at ∙ is in
+          let y : get_or (take k common) b 0 ≡ e = get_or-take k common b 0 low ∙ were.first e b known old in
+          one-place (take k common) e p b alone (omega (arith, here, len)) (omega (arith, low, len)) x y ∙ sym fi;
       least = λ i h.
           let other : i ≢ e = (λ q. omega (arith, h, is, q)) in
           omega (arith, same-times common k i l other, once i h);
@@ -176,7 +219,7 @@ pub least-again : (common places : List ℕ) (k population b : ℕ) (least : Opt
     get_or places (get_or common k 0) 0 ≡ suc b → other.elem ≡ get_or common k 0 → other.first ≡ b → other.second ≡ k →
     IsLeastOf common k least → IsLeastOf common (k + 1) (lesser_of least other)
 least-again common places k population b None other were l known old el fi se so =
-    new-double common places k population b other.elem other.first other.second were l known old el fi se (λ i h. so i)
+    new-double common places k population b other.elem other.first other.second were l known old el fi se (λ i h. so i) (so (get_or common k 0))
 least-again common places k population b (Some d) other were l known old el fi se so =
     elim (cases_Bool (nat_le d.elem other.elem)) [
       | inl t ↦
@@ -191,18 +234,9 @@ least-again common places k population b (Some d) other were l known old el fi s
           let lt : other.elem < d.elem = grind (arith, nat_tests) in
           rw f (
           new-double common places k population b other.elem other.first other.second were l known old el fi se
-          (λ i h. so.least i (omega (arith, h, lt)))
+          (λ i h. so.least i (omega (arith, h, lt))) (so.least (get_or common k 0) (omega (arith, lt, el)))
           )
     ]
-
--- an element that stands in a list is counted
-bag-at : (xs : List ℕ) (k e : ℕ) → k < length xs → get_or xs k 0 ≡ e → 1 ≤ bag xs e
-bag-at xs k e l is =
-    let at : bag (take (k + 1) xs) (get_or xs k 0) ≡ bag (take k xs) (get_or xs k 0) + one (get_or xs k 0) (get_or xs k 0) =
-    bag-suc xs k (get_or xs k 0) l in
-    let here : 1 ≤ bag xs (get_or xs k 0) =
-    omega (arith, at, one-same (get_or xs k 0), bag-take-le (k + 1) xs (get_or xs k 0)) in
-    subst (λ (i : ℕ). 1 ≤ bag xs i) is here
 
 -- the least element that stands twice is counted twice
 pub double-twice : (xs : List ℕ) (e first second : ℕ) → IsLeastDouble xs e first second → 2 ≤ bag xs e

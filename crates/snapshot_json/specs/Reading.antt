@@ -37,12 +37,13 @@ abbrev pub IsNoJson : List ℕ → Type 0
 IsNoJson bytes = ¬ (IsUtf8 bytes) ⊎ ((read bytes ≡ None) ⊎ (document bytes ≡ None))
 
 -- The least element that stands twice in a list of elements, with the first two places where it
--- stands.
+-- stands: before the second it stands at the first alone.
 pub record IsLeastDouble (common : List ℕ) (elem first second : ℕ) : Type 0 where
   pub order : first < second
   pub within : second < length common
   pub at_first : slice_index common first ≡ elem
   pub at_second : slice_index common second ≡ elem
+  pub first_two : (p : ℕ) → p < second → slice_index common p ≡ elem → p ≡ first
   pub least : (e : ℕ) → e < elem → bag common e ≤ 1
 
 -- the same of the list that a value has as its common one
