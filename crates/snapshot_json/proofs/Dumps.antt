@@ -1,5 +1,5 @@
 -- The data of a value of JSON, from that of its parts.
-use Rattle.std.proofs.Common.{ℕ, ◌≡◌, ◌<◌, ◌^◌, Bool, true, false, true≢false, List, [], ◌∷◌, Option, None, Some, option_map, option_and_then, codes, decimal, map, refl, sym, ap, ◌∙◌}
+use Rattle.std.proofs.Common.{ℕ, ◌≡◌, ◌<◌, ◌^◌, Bool, true, List, [], ◌∷◌, Some, codes, decimal, map, refl}
 use Rattle.commons.specs.declared.limits.Limits.{Limits}
 use Rattle.commons.specs.declared.packet.Seg.{Seg}
 use Rattle.json.specs.Find.{as_bool, as_number, is_null}

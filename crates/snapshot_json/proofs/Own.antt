@@ -13,7 +13,7 @@ use Rattle.serde_json.specs.Find.{as_number, as_u64}
 use Rattle.serde_json.specs.View.{items_of}
 use Rattle.snapshot.specs.declared.snapshot.ShareData.{ShareData}
 use Rattle.snapshot.specs.declared.snapshot.Snapshot.{Snapshot}
-use Rattle.snapshot_json.specs.SnapshotData.{FitsBase, FitsGuest, FitsPlace, FitsSeg, FitsShare, HasCommon, HasWords, common_data, guest_data, limits_data, place_data, places_data, rule_data, share_data, snapshot_data}
+use Rattle.snapshot_json.specs.SnapshotData.{FitsBase, FitsGuest, FitsPlace, FitsSeg, FitsShare, HasWords, common_data, guest_data, limits_data, place_data, places_data, rule_data, share_data, snapshot_data}
 use Rattle.snapshot_json.specs.Reading.{IsOfPool}
 use Rattle.snapshot_json.specs.Shown.{beside_stack, guest_in, items_at, items_in, limits_at, limits_in, list_of, number32_in, number_in, numbers_at, place_in, rule_from, seg_in, share_in, some_within, with_words, within}
 

@@ -1,5 +1,5 @@
 -- A text whose list has an element twice is no snapshot's.
-use Rattle.std.proofs.Common.{ℕ, ◌≡◌, ◌≢◌, ◌≤◌, ◌⊎◌, List, [], Option, None, Some, codes, inl, inr, length, refl, subst, sym, ap, ◌∙◌, arith}
+use Rattle.std.proofs.Common.{ℕ, ◌≢◌, ◌≤◌, List, [], Option, None, Some, codes, inl, inr, refl, subst, sym, ap, ◌∙◌, arith}
 use Rattle.std.specs.Prelude.{IsSomeAnd}
 use Rattle.commons.specs.Bag.{bag}
 use Rattle.commons.proofs.Bags.{bag-nil}
@@ -9,7 +9,7 @@ use Rattle.serde_json.specs.Data.{Data}
 use Rattle.serde_json.specs.Find.{get}
 use Rattle.serde_json.specs.Read.{read}
 use Rattle.snapshot.specs.declared.snapshot.Snapshot.{Snapshot}
-use Rattle.snapshot_json.specs.Reading.{HasLeastDouble, IsFaultOf, IsNoJson, IsNoListData, IsNoSnapshotData, IsNoSnapshotText, IsOfPool, IsWrongText}
+use Rattle.snapshot_json.specs.Reading.{HasLeastDouble, IsFaultOf, IsNoListData, IsNoSnapshotData, IsNoSnapshotText, IsOfPool}
 use Rattle.snapshot_json.specs.Readings.{with_list}
 use Rattle.snapshot_json.specs.Repeats.{IsNoRepeatingText, IsRepeatingData, IsRepeatingText, IsTextFaultOf, doubled_by}
 use Rattle.snapshot_json.specs.SnapshotData.{HasCommon, HasWords, IsSnapshotData}

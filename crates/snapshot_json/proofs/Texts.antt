@@ -1,12 +1,12 @@
 -- A text of JSON that doesn't nest too deep is one value for both readers.
-use Rattle.std.proofs.Common.{ℕ, ◌≡◌, List, [], ◌∷◌, Option, None, Some, option_map, option_and_then, refl, sym, ap, ◌∙◌}
+use Rattle.std.proofs.Common.{ℕ, ◌≡◌, List, [], ◌∷◌, Option, None, Some, option_map, option_and_then, ap, ◌∙◌}
 use Rattle.json.specs.Json as json
 use Rattle.json.specs.Json.{Json, document, if_last, value}
 use Rattle.json.specs.Lex.{tokens}
 use Rattle.json.specs.Token.{Token}
 use Rattle.json.proofs.Found.{Some_inj, one_reading}
 use Rattle.serde_json.specs.Data.{Data}
-use Rattle.serde_json.specs.Read.{max_depth, of_json, read}
+use Rattle.serde_json.specs.Read.{max_depth, read}
 use Rattle.snapshot_json.specs.Dumped.{IsLow, IsOf}
 
 -- a reading that leaves nothing

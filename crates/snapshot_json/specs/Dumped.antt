@@ -1,5 +1,5 @@
 -- What a value of JSON is the data of. For private clauses.
-use Rattle.std.specs.Prelude.{ℕ, ◌≡◌, List, [], None, Some, map}
+use Rattle.std.specs.Prelude.{ℕ, ◌≡◌, List, [], Some, map}
 use Rattle.json.specs.Json.{Json, skip_value}
 use Rattle.json.specs.Lex.{tokens}
 use Rattle.json.specs.Json as json
