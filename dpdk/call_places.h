@@ -29,6 +29,14 @@ int call_places_begin(void);
 /* Where a function's return address lies on the stack, for a function that isn't in line. */
 #define RETURN_SLOT() ((const uintptr_t *)__builtin_frame_address(0) + 1)
 
+/* The slot of a return address, if it is that of the function that another went on with: not where it is
+ * compiled so that it calls it. */
+static inline const uintptr_t *
+slot_of(const void *return_address, const uintptr_t *slot)
+{
+	return *slot == (uintptr_t)return_address ? slot : NULL;
+}
+
 /* The number of the place that a call returns to, with so many calls on the way to it. Where that isn't 0 it
  * unwinds the stack, which takes some microseconds; or less where it did so before from the same place: that is
  * known where it is said in which slot of the stack the return address lies, which may be NULL. It is 0 where

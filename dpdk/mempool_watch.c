@@ -80,14 +80,6 @@ got_by(const void *from, unsigned int how, uint64_t calls, const uintptr_t *slot
 	return get;
 }
 
-/* The slot of a return address, if it is that of the function that the handler went on with: not where it is
- * compiled so that it calls it. */
-static const uintptr_t *
-slot_of(const void *from, const uintptr_t *slot)
-{
-	return *slot == (uintptr_t)from ? slot : NULL;
-}
-
 static void
 put_back(struct watch *s, void **objects, unsigned int n)
 {

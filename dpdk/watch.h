@@ -30,8 +30,8 @@ void watch_read_wishes(struct watch_wishes *wishes);
 
 /* ---- one mbuf in N ---- */
 
-/* When an lcore's next turn comes. (written by the lcore alone, or by all threads without one, which may lose
- * a count) */
+/* When the next turn of an lcore comes, or of a port's queue. (written by the lcore alone, or by all threads
+ * without one, which may lose a count) */
 struct turn {
 	int64_t until;	/* objects or packets up to the next one whose turn it is */
 	uint64_t drawn; /* the sum of all intervals, so that drawn - until is what was seen */

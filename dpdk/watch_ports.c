@@ -15,15 +15,17 @@
 #include "mempool_watch.h"
 #include "watch.h"
 
-static struct turn turns[RTE_MAX_LCORE + 1];
-static uint64_t every, seed; /* those of the first mempool that is watched */
+/* The turns of each queue, which one lcore at a time receives from. They stay when a port goes, and of a port
+ * with its number the turns go on. */
+static struct turn turns[RTE_MAX_ETHPORTS][RTE_MAX_QUEUES_PER_PORT];
+static uint64_t every, seed; /* those of the first mempool that is watched; 0: none is yet */
 
 /* The callbacks that stand now, of a port that had started when it was looked at, and those that were taken
- * away last: an lcore may still be in one. (under the lock) */
+ * away last: an lcore may still be in one. And how many queues of a port ever had turns. (under the lock) */
 static pthread_mutex_t lock = PTHREAD_MUTEX_INITIALIZER;
 static const struct rte_eth_rxtx_callback *added[RTE_MAX_ETHPORTS][RTE_MAX_QUEUES_PER_PORT],
 	*taken[RTE_MAX_ETHPORTS][RTE_MAX_QUEUES_PER_PORT];
-static uint16_t nb_added[RTE_MAX_ETHPORTS];
+static uint16_t nb_added[RTE_MAX_ETHPORTS], nb_turns[RTE_MAX_ETHPORTS];
 
 /* ---- packets ---- */
 
@@ -68,7 +70,7 @@ copy_segment(const struct watch *s, struct rte_mbuf *to, struct rte_mbuf *from)
 }
 
 static __rte_noinline void
-take_over(struct rte_mbuf **at, uint16_t port, const uintptr_t *slot)
+take_over(struct rte_mbuf **at, uint16_t port, const void *from, const uintptr_t *slot)
 {
 	struct rte_mbuf *m = *at, *w;
 	struct watch *s = watch_of(m);
@@ -83,8 +85,7 @@ take_over(struct rte_mbuf **at, uint16_t port, const uintptr_t *slot)
 		return;
 	}
 	if (watch_waiting(s) != 0)
-		get.got = caller_of(rte_lcore_id(),
-			call_place((const void *)*slot, s->wishes.calls, slot));
+		get.got = caller_of(rte_lcore_id(), call_place(from, s->wishes.calls, slot));
 	if (!watch_get(s, &w, &get)) {
 		turn_add(&counts->dry, 1);
 		return;
@@ -95,34 +96,31 @@ take_over(struct rte_mbuf **at, uint16_t port, const uintptr_t *slot)
 	rte_pktmbuf_free_seg(m);
 }
 
-/* It is the turn of some of these packets, which are counted from 1; or they are an lcore's first. */
-static __rte_noinline void
-take_turns(struct turn *t, struct rte_mbuf **packets, uint16_t n, uint16_t port, const uintptr_t *slot)
+/* It is the turn of some of these packets, which are counted from 1. */
+static __rte_noinline uint16_t
+take_turns(uint16_t port, struct turn *t, struct rte_mbuf **packets, uint16_t n, const void *from)
 {
-	int64_t until = turn_until(t);
+	const uintptr_t *slot = slot_of(from, RETURN_SLOT());
+	int64_t until;
 
-	if (until == 0) {
-		turn_begin(t, __atomic_load_n(&seed, __ATOMIC_ACQUIRE), RTE_MAX_LCORE + 1 + (t - turns));
-		until = turn_draw(t, every);
-	}
-	for (; until <= n; until += turn_draw(t, every))
-		take_over(&packets[until - 1], port, slot);
+	for (until = turn_until(t); until <= n; until += turn_draw(t, every))
+		take_over(&packets[until - 1], port, from, slot);
 	turn_set_until(t, until - n);
+	return n;
 }
 
+/* (most often it counts, and no more) */
 static uint16_t
 received(uint16_t port, uint16_t queue, struct rte_mbuf **packets, uint16_t n, uint16_t most, void *arg)
 {
-	struct turn *t = own_turn(turns);
+	struct turn *t = arg;
 	int64_t until = turn_until(t);
 
 	RTE_SET_USED(queue);
 	RTE_SET_USED(most);
-	RTE_SET_USED(arg);
-	if (likely(until > n))
-		turn_set_until(t, until - n);
-	else
-		take_turns(t, packets, n, port, RETURN_SLOT());
+	if (unlikely(until <= n))
+		return take_turns(port, t, packets, n, __builtin_return_address(0));
+	turn_set_until(t, until - n);
 	return n;
 }
 
@@ -130,10 +128,13 @@ uint64_t
 watch_seen_of_ports(void)
 {
 	uint64_t seen = 0;
-	unsigned int i;
+	uint16_t port, q;
 
-	for (i = 0; i < RTE_DIM(turns); i++)
-		seen += turn_load(&turns[i].drawn) - turn_until(&turns[i]);
+	pthread_mutex_lock(&lock);
+	for (port = 0; port < RTE_MAX_ETHPORTS; port++)
+		for (q = 0; q < nb_turns[port]; q++)
+			seen += turn_load(&turns[port][q].drawn) - turn_until(&turns[port][q]);
+	pthread_mutex_unlock(&lock);
 	return seen;
 }
 
@@ -171,6 +172,21 @@ take_away(uint16_t port)
 	nb_added[port] = 0;
 }
 
+/* Begins the turns of a port's queues that never had any: those of each differ from all others'. */
+static void
+begin_turns(uint16_t port)
+{
+	uint16_t q;
+
+	for (q = nb_turns[port]; q < nb_added[port]; q++) {
+		struct turn *t = &turns[port][q];
+
+		turn_begin(t, seed, RTE_MAX_LCORE + 1 + port * RTE_MAX_QUEUES_PER_PORT + q);
+		turn_set_until(t, turn_draw(t, every));
+	}
+	nb_turns[port] = RTE_MAX(nb_turns[port], nb_added[port]);
+}
+
 static void
 add(uint16_t port)
 {
@@ -180,8 +196,9 @@ add(uint16_t port)
 	if (rte_eth_dev_info_get(port, &info) != 0)
 		return;
 	nb_added[port] = RTE_MIN(info.nb_rx_queues, RTE_DIM(added[port]));
+	begin_turns(port);
 	for (q = 0; q < nb_added[port]; q++) {
-		added[port][q] = rte_eth_add_rx_callback(port, q, received, NULL);
+		added[port][q] = rte_eth_add_rx_callback(port, q, received, &turns[port][q]);
 		if (added[port][q] == NULL)
 			watch_log_ports(rte_strerror(rte_errno));
 	}
@@ -208,7 +225,7 @@ watch_look_at_ports(const struct watch_wishes *wishes)
 	pthread_mutex_lock(&lock);
 	if (every == 0) {
 		every = wishes->every;
-		__atomic_store_n(&seed, wishes->seed, __ATOMIC_RELEASE);
+		seed = wishes->seed;
 		rte_eth_dev_callback_register(RTE_ETH_ALL, RTE_ETH_EVENT_DESTROY, leaves, NULL);
 	}
 	for (port = 0; port < RTE_MAX_ETHPORTS; port++) {

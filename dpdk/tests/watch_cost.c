@@ -4,11 +4,11 @@
  *
  *     make watch_cost
  *     MBUFPOOL_WATCH_OVER=ring_mp_mc MBUFPOOL_WATCH_EVERY=10000 ./watch_cost [CACHE [ROUNDS]] --no-huge -m 128 \
- *             --no-pci -l 0 --vdev net_null0 --vdev net_null1 --vdev net_null2 \
+ *             --no-pci -l 0 --vdev net_null0 --vdev net_null1 --vdev net_null2 --vdev net_null3 \
  *             -d $PWD/librte_mempool_mbufpool_watch.so
  *
- * The first two ports are on ring_mp_mc, without a callback; the third is on the watch over it. The second
- * against the first says how far two differ that are alike. */
+ * The first three ports are on ring_mp_mc, the last is on the watch over it. The second against the first says
+ * how far two differ that are alike; the third has a callback that does nothing, as DPDK calls any. */
 #include <stdio.h>
 #include <stdlib.h>
 #include <string.h>
@@ -22,7 +22,7 @@
 
 #include "mempool_watch.h"
 
-#define PORTS 3
+enum { AS_IT_IS, AGAIN, CALLED_BACK, WATCHED, PORTS };
 #define MBUFS 4096
 #define BURST 32
 #define BURSTS 400 /* of a port in a round */
@@ -48,12 +48,23 @@ start(uint16_t port, unsigned int cache)
 
 	snprintf(name, sizeof(name), "packets%u", port);
 	mp = rte_pktmbuf_pool_create_by_ops(name, MBUFS, cache, 0, RTE_MBUF_DEFAULT_BUF_SIZE, SOCKET_ID_ANY,
-		port == PORTS - 1 ? MBUFPOOL_WATCH_OPS : "ring_mp_mc");
+		port == WATCHED ? MBUFPOOL_WATCH_OPS : "ring_mp_mc");
 	memset(&conf, 0, sizeof(conf));
 	if (mp == NULL || rte_eth_dev_configure(port, 1, 1, &conf) != 0 ||
 		rte_eth_rx_queue_setup(port, 0, 512, SOCKET_ID_ANY, NULL, mp) != 0 ||
 		rte_eth_tx_queue_setup(port, 0, 512, SOCKET_ID_ANY, NULL) != 0 || rte_eth_dev_start(port) != 0)
 		rte_panic("no port %u: %s\n", port, rte_strerror(rte_errno));
+}
+
+static uint16_t
+nothing(uint16_t port, uint16_t queue, struct rte_mbuf **packets, uint16_t n, uint16_t most, void *arg)
+{
+	RTE_SET_USED(port);
+	RTE_SET_USED(queue);
+	RTE_SET_USED(packets);
+	RTE_SET_USED(most);
+	RTE_SET_USED(arg);
+	return n;
 }
 
 /* (the watch adds its callback to each port that has started) */
@@ -63,11 +74,13 @@ wait_for_callbacks(void)
 	struct rte_mbuf *m[BURST];
 	uint16_t port, n;
 
-	for (n = rte_eth_rx_burst(PORTS - 1, 0, m, BURST); n > 0; n--)
+	for (n = rte_eth_rx_burst(WATCHED, 0, m, BURST); n > 0; n--)
 		rte_pktmbuf_free(m[n - 1]);
 	rte_delay_us_sleep(1000000);
-	for (port = 0; port < PORTS - 1; port++)
+	for (port = 0; port < WATCHED; port++)
 		rte_eth_fp_ops[port].rxq.clbk[0] = NULL;
+	if (rte_eth_add_rx_callback(CALLED_BACK, 0, nothing, NULL) == NULL)
+		rte_panic("no callback: %s\n", rte_strerror(rte_errno));
 }
 
 static double
@@ -132,9 +145,10 @@ main(int argc, char **argv)
 		for (port = 0; port < PORTS; port++)
 			ns[port][i] = forward(port);
 	printf("cache of %u, %u rounds\n", cache, rounds);
-	tell("as it is", 0, rounds);
-	tell("again", 1, rounds);
-	tell("watched", PORTS - 1, rounds);
+	tell("as it is", AS_IT_IS, rounds);
+	tell("again", AGAIN, rounds);
+	tell("with a callback that does nothing", CALLED_BACK, rounds);
+	tell("watched", WATCHED, rounds);
 	fflush(stdout);
 	_Exit(0);
 }
