@@ -137,14 +137,28 @@ put_text(caller put, char *text)
 	return text;
 }
 
+/* Writes that the element had owners before the last one, where it had. */
+static const char *
+again_text(uint32_t gets, char *text)
+{
+	text[0] = 0;
+	if (gets == 2)
+		snprintf(text, LAST_TEXT, ", or its old owner freed it late: it was given again once");
+	else if (gets != 1 && gets != 0)
+		snprintf(text, LAST_TEXT,
+			", or its old owner freed it late: it was given again %" PRIu32 " times", gets - 1);
+	return text;
+}
+
 /* An element that is in the pool: who put it there, and who had got it. It may have been put early, and
  * given to another, who put it now or before: then that one isn't to blame. */
 void
 guard_log_not_out(struct guard_pool *p, uint32_t element, caller put, caller by)
 {
 	caller got = __atomic_load_n(&p->pasts[element].got, __ATOMIC_RELAXED);
+	uint32_t gets = __atomic_load_n(&p->pasts[element].gets, __ATOMIC_RELAXED);
 	char lcore[CALL_TEXT], place[PLACE_TEXT], put_before[LAST_TEXT], got_before[LAST_TEXT],
-		way[PLACE_TEXT];
+		again[LAST_TEXT], way[PLACE_TEXT];
 
 	if (!take_line_of_put(p))
 		return;
@@ -152,7 +166,7 @@ guard_log_not_out(struct guard_pool *p, uint32_t element, caller put, caller by)
 		"%s %p (element %" PRIu32 ") is put by %s at %s and isn't out: %s, %s%s%s",
 		kind_of(p->mp), p->objects[element], p->numbers[element], caller_lcore_text(by, lcore),
 		caller_place_text(by, place), put_text(put, put_before), got_text(got, got_before),
-		got != 0 ? ", or its old owner freed it late" : "", way_text(by, way));
+		again_text(gets, again), way_text(by, way));
 }
 
 /* An element that a worker kept and another put. */

@@ -13,8 +13,8 @@
 #include "mbufpool.h"
 #include "object_numbers.h"
 
-/* Who put an element last, or 0 while it is out; and who got it last, or 0 where nobody has. What was
- * put last is in the pool: a put notes itself before it asks the library, and a get behind that. */
+/* Who put an element last, or 0 while it is out; who got it last, or 0 where nobody has; and how often it was
+ * got. What was put last is in the pool: a put notes itself before it asks the library, and a get behind that. */
 struct past {
 	union {
 		struct {
@@ -22,6 +22,7 @@ struct past {
 		};
 		uint64_t both;
 	};
+	uint32_t gets; /* modulo 2^32 */
 };
 
 /* Where a worker was called from last, and the caller that this is, as it is noted of what he gets or puts. */

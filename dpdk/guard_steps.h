@@ -31,10 +31,12 @@ own_user(const struct guard_pool *p)
 
 /* ---- who and where ---- */
 
+/* (two never note gets of one element at the same time: between them is a put) */
 static __rte_always_inline void
 note_got(struct past *past, struct past now)
 {
 	write_now(&past->both, now.both);
+	write_now(&past->gets, read_now(&past->gets) + 1);
 }
 
 /* Notes a put before the library is asked: a get that follows it then is noted behind it. What was put last
