@@ -12,15 +12,9 @@
 #include "guard_pool.h"
 #include "mempool_guard.h"
 #include "releases.h"
+#include "tallies.h"
 
-#define TELEMETRY_LINES 64 /* so that an answer fits into what telemetry sends */
-
-/* Objects that were got by one lcore at one place. */
-struct tally {
-	caller by;
-	uint32_t objects;
-};
-
+/* How much is out, and by whom. */
 struct tallies {
 	uint32_t out, count;
 	struct tally *all;
@@ -87,57 +81,21 @@ callers_of(struct guard_pool *p, caller *by)
 	return out;
 }
 
-static int
-by_caller(const void *a, const void *b)
-{
-	caller x = *(const caller *)a, y = *(const caller *)b;
-
-	return (x > y) - (x < y);
-}
-
-/* Most first, and of as many the least lcore. */
-static int
-by_count(const void *a, const void *b)
-{
-	const struct tally *x = a, *y = b;
-
-	if (x->objects != y->objects)
-		return x->objects < y->objects ? 1 : -1;
-	return by_caller(&x->by, &y->by);
-}
-
 /* Counts what is out. The tallies are freed by whoever asks. */
 static int
 count_out(struct guard_pool *p, struct tallies *t)
 {
 	caller *by = malloc(RTE_MAX(p->known, 1u) * sizeof(*by));
-	uint32_t i;
 
 	memset(t, 0, sizeof(*t));
 	if (by == NULL)
 		return -ENOMEM;
 	t->out = callers_of(p, by);
-	qsort(by, t->out, sizeof(*by), by_caller);
-	for (i = 0; i < t->out; i++)
-		t->count += i == 0 || by[i] != by[i - 1];
-	t->all = calloc(RTE_MAX(t->count, 1u), sizeof(*t->all));
-	if (t->all != NULL) {
-		t->count = 0;
-		for (i = 0; i < t->out; i++) {
-			if (i == 0 || by[i] != by[i - 1])
-				t->all[t->count++].by = by[i];
-			t->all[t->count - 1].objects++;
-		}
-		qsort(t->all, t->count, sizeof(*t->all), by_count);
-	}
+	t->all = calloc(RTE_MAX(t->out, 1u), sizeof(*t->all));
+	if (t->all != NULL)
+		t->count = tally_up(by, t->out, t->all);
 	free(by);
 	return t->all != NULL ? 0 : -ENOMEM;
-}
-
-static int
-written(FILE *out)
-{
-	return fflush(out) == 0 && !ferror(out) ? 0 : -EIO;
 }
 
 /* Writes how many puts were found late to have been too many, where there are any. */
@@ -156,9 +114,8 @@ int
 mbufpool_guard_report(FILE *out, const struct rte_mempool *mp)
 {
 	struct guard_pool *p = pool_of(mp);
-	char lcore[CALL_TEXT], place[PLACE_TEXT], late[CALL_TEXT];
+	char late[CALL_TEXT];
 	struct tallies t;
-	uint32_t i;
 
 	if (p == NULL)
 		return -EINVAL;
@@ -173,11 +130,9 @@ mbufpool_guard_report(FILE *out, const struct rte_mempool *mp)
 		" puts were refused%s\n",
 		mp->name, t.out, p->known, __atomic_load_n(&p->refused, __ATOMIC_RELAXED),
 		late_text(p, late));
-	for (i = 0; i < t.count; i++)
-		fprintf(out, "%7" PRIu32 "  %s  %s\n", t.all[i].objects,
-			caller_lcore_text(t.all[i].by, lcore), caller_place_text(t.all[i].by, place));
+	tallies_write(out, t.all, t.count);
 	free(t.all);
-	return written(out);
+	return report_end(out);
 }
 
 int
@@ -198,7 +153,7 @@ mbufpool_guard_list(FILE *out, const struct rte_mempool *mp, unsigned int most)
 			caller_lcore_text(by, lcore), caller_place_text(by, place));
 		most--;
 	}
-	return written(out);
+	return report_end(out);
 }
 
 int
@@ -232,31 +187,12 @@ tell_pools(struct rte_tel_data *data)
 	return 0;
 }
 
-static void
-tell_tallies(const struct tallies *t, struct rte_tel_data *lines, uint64_t *rest)
-{
-	char line[CALL_TEXT + PLACE_TEXT + 32], lcore[CALL_TEXT], place[PLACE_TEXT];
-	uint32_t i;
-
-	rte_tel_data_start_array(lines, RTE_TEL_STRING_VAL);
-	for (i = 0; i < t->count; i++) {
-		if (i >= TELEMETRY_LINES) {
-			*rest += t->all[i].objects;
-			continue;
-		}
-		snprintf(line, sizeof(line), "%" PRIu32 "  %s  %s", t->all[i].objects,
-			caller_lcore_text(t->all[i].by, lcore),
-			caller_place_text(t->all[i].by, place));
-		rte_tel_data_add_array_string(lines, line);
-	}
-}
-
 static int
 tell_pool(struct guard_pool *p, struct rte_tel_data *data)
 {
 	struct rte_tel_data *lines = rte_tel_data_alloc();
 	struct tallies t;
-	uint64_t rest = 0;
+	uint64_t rest;
 
 	if (lines == NULL)
 		return -ENOMEM;
@@ -265,7 +201,7 @@ tell_pool(struct guard_pool *p, struct rte_tel_data *data)
 		rte_tel_data_free(lines);
 		return -ENOMEM;
 	}
-	tell_tallies(&t, lines, &rest);
+	rest = tallies_tell(t.all, t.count, lines);
 	rte_tel_data_start_dict(data);
 	rte_tel_data_add_dict_string(data, "pool", p->mp->name);
 	rte_tel_data_add_dict_uint(data, "objects", p->known);

@@ -14,6 +14,7 @@
 #include "call_places.h"
 #include "line_limit.h"
 #include "mbufpool.h"
+#include "tallies.h"
 
 /* ---- what the environment asks ---- */
 
@@ -231,12 +232,6 @@ void watch_list_unlock(void);
 struct watch *watch_list_first(void); /* (under the lock) */
 
 /* ---- reports (watch_report.c) ---- */
-
-/* Watched mbufs that are out, which were got by one lcore at one place. */
-struct tally {
-	caller by;
-	uint32_t mbufs;
-};
 
 /* Counts those that are out since `before` or longer by who got them, most first, what lies in lcores' caches
  * left out; and says of how many. The tallies are freed by whoever asks. NULL: no memory. */

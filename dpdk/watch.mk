@@ -1,8 +1,8 @@
 # The handler "mbufpool_watch" as a plugin of its own, and programs that test it.
 
 watch := librte_mempool_mbufpool_watch.so
-watch_sources := mempool_watch.c watch_mbufs.c watch_ports.c watch_log.c watch_report.c watch_tick.c call_places.c
-watch_headers := mempool_watch.h watch.h call_places.h line_limit.h one_process.h registering.h releases.h \
+watch_sources := mempool_watch.c watch_mbufs.c watch_ports.c watch_log.c watch_report.c watch_tick.c call_places.c tallies.c
+watch_headers := mempool_watch.h watch.h call_places.h tallies.h line_limit.h one_process.h registering.h releases.h \
 	$(top)/include/mbufpool.h
 
 watch_tests := watch_faults watch_uses watch_ports watch_cost

@@ -207,6 +207,6 @@ watch_log_old(struct watch *s, const struct tally *t)
 		return;
 	watch_log_left_out(s);
 	LOG(WARNING, s, "%" PRIu32 " of %" PRIu32 " watched mbufs are out for more than %" PRIu64
-		" s, got by %s at %s", t->mbufs, s->count, s->wishes.old, caller_lcore_text(t->by, lcore),
+		" s, got by %s at %s", t->objects, s->count, s->wishes.old, caller_lcore_text(t->by, lcore),
 		caller_place_text(t->by, place));
 }

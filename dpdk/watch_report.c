@@ -13,8 +13,7 @@
 #include "releases.h"
 #include "watch.h"
 
-#define PORTION 128	   /* watched mbufs that are looked at under one lock */
-#define TELEMETRY_LINES 64 /* so that an answer fits into what telemetry sends */
+#define PORTION 128 /* watched mbufs that are looked at under one lock */
 
 /* ---- counts ---- */
 
@@ -100,41 +99,6 @@ callers_of(struct watch *s, uint64_t before, const uint8_t *is_cached, caller *b
 	return n;
 }
 
-static int
-by_caller(const void *a, const void *b)
-{
-	caller x = *(const caller *)a, y = *(const caller *)b;
-
-	return (x > y) - (x < y);
-}
-
-/* Most first, and of as many the least lcore. */
-static int
-by_count(const void *a, const void *b)
-{
-	const struct tally *x = a, *y = b;
-
-	if (x->mbufs != y->mbufs)
-		return x->mbufs < y->mbufs ? 1 : -1;
-	return by_caller(&x->by, &y->by);
-}
-
-/* (at most as many tallies as callers) */
-static uint32_t
-tally_up(caller *by, uint32_t n, struct tally *all)
-{
-	uint32_t count = 0, i;
-
-	qsort(by, n, sizeof(*by), by_caller);
-	for (i = 0; i < n; i++) {
-		if (i == 0 || by[i] != by[i - 1])
-			all[count++].by = by[i];
-		all[count - 1].mbufs++;
-	}
-	qsort(all, count, sizeof(*all), by_count);
-	return count;
-}
-
 struct tally *
 watch_count_out(struct watch *s, uint64_t before, uint32_t *nb_tallies, uint32_t *out)
 {
@@ -184,12 +148,6 @@ watch_of(const struct rte_mempool *mp)
 	return mp->pool_data;
 }
 
-static int
-written(FILE *out)
-{
-	return fflush(out) == 0 && !ferror(out) ? 0 : -EIO;
-}
-
 static void
 write_counts(FILE *out, struct watch *s, uint32_t nb_out)
 {
@@ -208,10 +166,9 @@ write_counts(FILE *out, struct watch *s, uint32_t nb_out)
 int
 mbufpool_watch_report(FILE *out, const struct rte_mempool *mp)
 {
-	char lcore[CALL_TEXT], place[PLACE_TEXT];
 	struct watch *s = watch_of(mp);
-	uint32_t n, nb_out, i;
 	struct tally *all;
+	uint32_t n, nb_out;
 
 	if (s == NULL)
 		return -EINVAL;
@@ -219,11 +176,9 @@ mbufpool_watch_report(FILE *out, const struct rte_mempool *mp)
 	if (all == NULL)
 		return -ENOMEM;
 	write_counts(out, s, nb_out);
-	for (i = 0; i < n; i++)
-		fprintf(out, "%7" PRIu32 "  %s  %s\n", all[i].mbufs, caller_lcore_text(all[i].by, lcore),
-			caller_place_text(all[i].by, place));
+	tallies_write(out, all, n);
 	free(all);
-	return written(out);
+	return report_end(out);
 }
 
 int
@@ -247,7 +202,7 @@ mbufpool_watch_list(FILE *out, const struct rte_mempool *mp, unsigned int most)
 			caller_lcore_text(w.past.got, lcore), caller_place_text(w.past.got, place));
 		most--;
 	}
-	return written(out);
+	return report_end(out);
 }
 
 /* ---- telemetry ---- */
@@ -263,20 +218,6 @@ tell_pools(struct rte_tel_data *data)
 	return 0;
 }
 
-static void
-tell_tallies(const struct tally *all, uint32_t n, struct rte_tel_data *lines)
-{
-	char line[CALL_TEXT + PLACE_TEXT + 32], lcore[CALL_TEXT], place[PLACE_TEXT];
-	uint32_t i;
-
-	rte_tel_data_start_array(lines, RTE_TEL_STRING_VAL);
-	for (i = 0; i < n && i < TELEMETRY_LINES; i++) {
-		snprintf(line, sizeof(line), "%" PRIu32 "  %s  %s", all[i].mbufs,
-			caller_lcore_text(all[i].by, lcore), caller_place_text(all[i].by, place));
-		rte_tel_data_add_array_string(lines, line);
-	}
-}
-
 static int
 tell_pool(struct watch *s, struct rte_tel_data *data)
 {
@@ -288,7 +229,7 @@ tell_pool(struct watch *s, struct rte_tel_data *data)
 		rte_tel_data_free(lines);
 		return -ENOMEM;
 	}
-	tell_tallies(all, n, lines);
+	tallies_tell(all, n, lines);
 	free(all);
 	rte_tel_data_start_dict(data);
 	rte_tel_data_add_dict_string(data, "pool", s->mp->name);

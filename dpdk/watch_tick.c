@@ -130,7 +130,7 @@ told_of(const struct watch *s, caller by)
 
 	for (i = 0; i < s->nb_told_old; i++)
 		if (s->told_old[i].by == by)
-			return s->told_old[i].mbufs;
+			return s->told_old[i].objects;
 	return 0;
 }
 
@@ -149,10 +149,10 @@ look_at_old(struct watch *s)
 	for (i = 0; found != NULL && i < n; i++) {
 		const uint32_t told = told_of(s, found[i].by);
 
-		if (told == 0 || found[i].mbufs >= 2 * told)
+		if (told == 0 || found[i].objects >= 2 * told)
 			watch_log_old(s, &found[i]);
 		else
-			found[i].mbufs = told;
+			found[i].objects = told;
 	}
 	if (found == NULL)
 		return;
