@@ -12,7 +12,7 @@ pub enum Failure {
     System(io::Error),
     /// A pool could not be made, or its first packets.
     Refused(Refusal),
-    /// A name or a number of a list isn't one that can be measured.
+    /// The words, or a name or a number of a list, are none that can be measured.
     NotInList,
     /// This many elements aren't back in the common list at the end.
     Missing(u64),
@@ -38,14 +38,15 @@ impl From<AllocError> for Failure {
     }
 }
 
-/// Tells of a failure, and gives its status: 2 for a list that names what can't be measured,
-/// else 1.
+/// Tells of a failure, and gives its status: 2 for words that can't be measured, else 1.
 pub fn tell<R: Eprint>(rt: &R, failure: &Failure) -> u8 {
     let (told, status) = match failure {
         Failure::System(error) => (rt.eprintln(format_args!("bench: {error}")), 1),
         Failure::Refused(refusal) => (rt.eprintln(format_args!("bench: {refusal}")), 1),
         Failure::NotInList => (
-            rt.eprintln(format_args!("bench: a list names what can't be measured")),
+            rt.eprintln(format_args!(
+                "bench: that can't be measured; without words it lists what can"
+            )),
             2,
         ),
         Failure::Missing(count) => (

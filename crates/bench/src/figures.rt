@@ -11,14 +11,6 @@ pub fn since<R: Clock>(rt: &R, start: Instant) -> Result<u64, Failure> {
     Ok(u64::try_from(nanos).unwrap_or(u64::MAX))
 }
 
-/// The figure at a place, or 0 where there is none.
-pub fn at(picos: &[u64], place: usize) -> u64 {
-    match picos.get(place) {
-        Some(picos) => *picos,
-        None => 0,
-    }
-}
-
 /// Picoseconds, shown as nanoseconds with two decimals.
 #[derive(Clone, Copy)]
 pub struct Nanos(pub u64);

@@ -7,13 +7,12 @@ mod called;
 mod hands;
 
 use crate::failures::Failure;
-use crate::figures::{Nanos, at};
+use crate::figures::Nanos;
 use crate::words::carried::Carried;
-use crate::words::span::{Span, Tally};
+use crate::words::span::{Length, Span, Tally};
 use acted::Acted;
 use called::Called;
 use commons::limits::{Limits, PutRule};
-use commons::refusal::Refusal;
 use ground::pool::Ground;
 use hands::{Hands, alone, echo, serve};
 use std::alloc::Global;
@@ -59,38 +58,19 @@ const WAYS: [(Way, &str, u64); 4] = [
     (Way::ActsAlone, "act", 1),
 ];
 
-/// Prints what one hand-over takes in each way, from the offer to the take, in nanoseconds: the
-/// least, the median and the greatest of this many runs of this many milliseconds, or of this many
-/// hand-overs where `rounds` says so.
+/// Prints what one hand-over takes in a run of each way, from the offer to the take, in
+/// nanoseconds. Of a number of rounds each hand-over is one.
 pub fn measure<R: Clock + Print + AllocGlobal + Threads + Sync>(
     rt: &R,
-    millis: u64,
-    rounds: Option<u64>,
-    runs: u64,
+    length: Length,
 ) -> Result<(), Failure> {
-    let (nanos, hands) = match rounds {
-        Some(rounds) => (0, rounds),
-        None => (millis.saturating_mul(1_000_000), BATCH),
-    };
-    rt.println(format_args!("handed over by  threads  least ns median ns  greatest"))?;
+    let (nanos, hands) = length.nanos_and_batch(BATCH);
+    rt.println(format_args!("handed over by  threads        ns"))?;
     for (way, name, threads) in WAYS {
-        let batch = hands / 2 + 1;
-        let mut picos = Vec::new(rt.alloc());
-        for _run in 0..runs {
-            let tally = run_once(rt, way, nanos, batch)?;
-            push(&mut picos, picos_each(tally))?;
-        }
-        picos.sort()?;
-        print_way(rt, name, threads, picos.as_slice())?;
+        let each = Nanos(picos_each(run_once(rt, way, nanos, hands / 2 + 1)?));
+        rt.println(format_args!("{name:<15} {threads:>7} {each}"))?;
     }
     Ok(())
-}
-
-fn push(picos: &mut Vec<u64>, each: u64) -> Result<(), Failure> {
-    match picos.push(each) {
-        Ok(()) => Ok(()),
-        Err(_) => Err(Failure::Refused(Refusal::OutOfMemory)),
-    }
 }
 
 /// How many picoseconds a hand-over took, of which a round has two.
@@ -98,13 +78,6 @@ fn picos_each(tally: Tally) -> u64 {
     let hands = u128::from(tally.rounds) * 2;
     let picos = u128::from(tally.nanos) * 1_000 / hands.max(1);
     u64::try_from(picos).unwrap_or(u64::MAX)
-}
-
-fn print_way<R: Print>(rt: &R, name: &str, threads: u64, picos: &[u64]) -> Result<(), Failure> {
-    let least = Nanos(at(picos, 0));
-    let median = Nanos(at(picos, picos.len() / 2));
-    let greatest = Nanos(at(picos, picos.len().saturating_sub(1)));
-    Ok(rt.println(format_args!("{name:<15} {threads:>7} {least} {median} {greatest}"))?)
 }
 
 /// One run, in a new pool.

@@ -1,4 +1,4 @@
-//! Measures the words of a pool: `bench WORKLOAD [--rounds N] [--runs R]`.
+//! Measures the words of a pool: `bench WORKLOAD ..`. Without words it lists the workloads.
 #![tactic(auto)]
 
 mod command_line;
@@ -8,7 +8,7 @@ mod handovers;
 mod memory;
 mod words;
 
-use command_line::{Asked, Workload};
+use command_line::Asked;
 use failures::Failure;
 use std::process::ExitCode;
 use std::rt::Runtime;
@@ -20,33 +20,25 @@ fn main(rt: HostRuntime) -> ExitCode {
 
 /// Measures what the command line asks for, and gives the status that the program ends with.
 fn run<R: Runtime + AllocGlobal + Threads + Sync>(rt: &R) -> u8 {
-    match command_line::words(rt) {
-        Ok(words) => asked(rt, words.as_slice()),
+    match asked(rt) {
+        Ok(()) => 0,
         Err(failure) => failures::tell(rt, &failure),
     }
 }
 
-/// Measures what these words ask for.
-fn asked<R: Runtime + AllocGlobal + Threads + Sync>(rt: &R, words: &[String]) -> u8 {
-    match command_line::read(rt.alloc(), words) {
-        Ok(asked) => match measure(rt, &asked) {
-            Ok(()) => 0,
-            Err(failure) => failures::tell(rt, &failure),
-        },
-        Err(error) => command_line::tell(rt, &error),
-    }
+fn asked<R: Runtime + AllocGlobal + Threads + Sync>(rt: &R) -> Result<(), Failure> {
+    let words = command_line::words(rt)?;
+    measure(rt, command_line::read(words.as_slice())?)
 }
 
 fn measure<R: Runtime + AllocGlobal + Threads + Sync>(
     rt: &R,
-    asked: &Asked<'_>,
+    asked: Asked<'_>,
 ) -> Result<(), Failure> {
-    match asked.workload {
-        None => command_line::list(rt),
-        Some(Workload::Words) => words::measure(rt, &asked.cells, asked.rounds, asked.runs),
-        Some(Workload::Handovers) => {
-            handovers::measure(rt, asked.cells.millis, asked.rounds, asked.runs)
-        }
-        Some(Workload::Memory) => memory::measure(rt, asked.cells.caches),
+    match asked {
+        Asked::List => command_line::list(rt),
+        Asked::Words(cells) => words::measure(rt, &cells),
+        Asked::Handovers(length) => handovers::measure(rt, length),
+        Asked::Memory(caches) => memory::measure(rt, caches),
     }
 }

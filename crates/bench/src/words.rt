@@ -10,18 +10,14 @@ mod threads;
 
 use crate::failures::Failure;
 pub use cells::{Cells, numbers_of};
-pub use kinds::NAMES;
 use std::rt::Runtime;
 use std::thread::Threads;
 
-/// Prints what an element that is got and put back takes in each cell, in nanoseconds of one
-/// thread: the least, the median and the greatest of this many runs, and how many of 1,000
-/// elements were refused.
+/// Prints what an element that is got and put back takes in a run of each cell, in nanoseconds of
+/// one thread, and how many of 1,000 elements were refused.
 pub fn measure<R: Runtime + AllocGlobal + Threads + Sync>(
     rt: &R,
     asked: &Cells,
-    rounds: Option<u64>,
-    runs: u64,
 ) -> Result<(), Failure> {
     let kinds = cells::kinds_of(rt.alloc(), asked.names)?;
     let threads = numbers_of(rt.alloc(), asked.threads)?;
@@ -31,7 +27,7 @@ pub fn measure<R: Runtime + AllocGlobal + Threads + Sync>(
         let caches = cells::caches_of(*kind, caches.as_slice());
         for count in threads.as_slice() {
             for cache in caches {
-                cells::measure(rt, asked, *kind, *count, *cache, rounds, runs)?;
+                cells::measure(rt, asked, *kind, *count, *cache)?;
             }
         }
     }

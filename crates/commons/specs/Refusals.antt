@@ -1,5 +1,5 @@
--- The numbers and names of the refusals.
-use Rattle.std.specs.Prelude.{ℕ, List, codes}
+-- The numbers, names and texts of the refusals.
+use Rattle.std.specs.Prelude.{ℕ, List, [], ◌++◌, codes, decimal}
 use Rattle.commons.specs.declared.refusal.Refusal.{Refusal}
 use Rattle.commons.specs.declared.refusal.Refusal.TheVariants.{BadPool, OutOfMemory, NoEntries, Contended, HeadSpent, RefSpent, TooManySegs, NoRoom, TooShort, NotDirect, NotIndirect, InUse, NoSuchPacket, PacketsFull, DeskTaken, DeskEmpty, NoSuchDesk, MissingShare, StrangerShare, ScriptFault, StepRefused, Foreign, SamePacket}
 
@@ -54,3 +54,13 @@ name_of (ScriptFault _) = codes "ScriptFault"
 name_of StepRefused = codes "StepRefused"
 name_of Foreign = codes "Foreign"
 name_of SamePacket = codes "SamePacket"
+
+-- the worker or the line that a refusal tells
+abbrev pub place_text : Refusal → List ℕ
+place_text (MissingShare worker) = codes " worker " ++ decimal worker
+place_text (ScriptFault line) = codes " line " ++ decimal line
+place_text _ = []
+
+-- a refusal as text
+abbrev pub text_of : Refusal → List ℕ
+text_of refusal = name_of refusal ++ place_text refusal

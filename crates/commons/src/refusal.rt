@@ -1,84 +1,62 @@
 //! The causes for which a call of any layer is refused, with their numbers and names as printed.
 
-ghost use Rattle.std.specs.Prelude.{◌≡◌};
-ghost use Rattle.commons.specs.Refusals.{name_of, number_of};
+ghost use Rattle.std.specs.Prelude.{◌≡◌, Some};
+ghost use Rattle.commons.specs.Refusals.{name_of, number_of, text_of};
 
-use thiserror::Error;
+use std::error::Error;
+use std::fmt;
 
 /// Why a call was refused. Each has a number and a name, which are printed together.
-#[derive(Clone, Copy, PartialEq, Eq, Debug, Error)]
+#[derive(Clone, Copy, PartialEq, Eq, Debug)]
 pub enum Refusal {
     /// The limits are out of range.
-    #[error("BadPool")]
     BadPool,
     /// A request for memory, or for a thread, was refused.
-    #[error("OutOfMemory")]
     OutOfMemory,
     /// A length below the number asked for was read.
-    #[error("NoEntries")]
     NoEntries,
     /// As many tries were lost as the pool allows.
-    #[error("Contended")]
     Contended,
     /// The head's modification count is spent.
-    #[error("HeadSpent")]
     HeadSpent,
     /// The reference count is at its limit.
-    #[error("RefSpent")]
     RefSpent,
     /// A packet would have, or has, too many segments.
-    #[error("TooManySegs")]
     TooManySegs,
     /// There is no room in the buffer.
-    #[error("NoRoom")]
     NoRoom,
     /// The packet is shorter than that.
-    #[error("TooShort")]
     TooShort,
     /// The segment is indirect already.
-    #[error("NotDirect")]
     NotDirect,
     /// The segment isn't indirect.
-    #[error("NotIndirect")]
     NotIndirect,
     /// A reference count other than 1 was read of the element: there was another hold of it then,
     /// perhaps this worker's own, which may be gone by now.
-    #[error("InUse")]
     InUse,
     /// There is no such packet.
-    #[error("NoSuchPacket")]
     NoSuchPacket,
     /// The worker's table of packets is full.
-    #[error("PacketsFull")]
     PacketsFull,
     /// The desk isn't empty.
-    #[error("DeskTaken")]
     DeskTaken,
     /// The desk has no packet.
-    #[error("DeskEmpty")]
     DeskEmpty,
     /// There is no such desk.
-    #[error("NoSuchDesk")]
     NoSuchDesk,
     /// The least worker whose part, what it has of the pool, wasn't handed in at the end. No call
     /// of `PlainSite`, `Packets` or `SitePool` answers it.
-    #[error("MissingShare worker {0}")]
     MissingShare(u32),
     /// The worker isn't of this pool, or its part was handed in already.
-    #[error("StrangerShare")]
     StrangerShare,
     /// The script's first faulty line.
-    #[error("ScriptFault line {0}")]
     ScriptFault(u32),
     /// A step of a call was named whose condition doesn't hold. No call of `PlainSite`, `Packets`
     /// or `SitePool` answers it.
-    #[error("StepRefused")]
     StepRefused,
     /// The packet is of two pools. No call of `PlainSite`, `Packets` or `SitePool` answers it.
-    #[error("Foreign")]
     Foreign,
     /// Both packets are the same.
-    #[error("SamePacket")]
     SamePacket,
 }
 
@@ -145,6 +123,22 @@ impl Refusal {
         }
     }
 }
+
+/// The name, and the worker or the line of the two that have one.
+impl fmt::Display for Refusal {
+    ghost output = { λ refusal. Some (text_of refusal) };
+
+    fn fmt<W: fmt::Write>(&self, f: &mut fmt::Formatter<W>) -> fmt::Result {
+        f.write_str(self.name())?;
+        match self {
+            Refusal::MissingShare(worker) => write!(f, " worker {worker}"),
+            Refusal::ScriptFault(line) => write!(f, " line {line}"),
+            _ => Ok(()),
+        }
+    }
+}
+
+impl Error for Refusal {}
 
 /// What lowering a reference count found.
 #[derive(Clone, Copy, PartialEq, Eq, Debug)]

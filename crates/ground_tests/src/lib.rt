@@ -1,5 +1,5 @@
-//! Tests of the words of a running pool: players of steps on a ground, and scripts that they play
-//! beside the machine.
+//! Tests of the machine, and of the words of a running pool: players of steps on a ground, and
+//! scripts that they play beside the machine.
 #![tactic(auto)]
 
 #[cfg(test)]
@@ -13,5 +13,7 @@ mod pair;
 #[cfg(test)]
 mod player;
 pub mod sees;
+#[cfg(test)]
+mod steps;
 #[cfg(test)]
 mod tests;

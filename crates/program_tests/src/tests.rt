@@ -21,7 +21,7 @@ mod turns;
 mod words;
 
 /// Asserts that both are equal, and else says of what, with both.
-fn same<R: Abort, T: PartialEq + Debug>(rt: &R, given: &T, wanted: &T, what: &str) {
+pub(crate) fn same<R: Abort, T: PartialEq + Debug>(rt: &R, given: &T, wanted: &T, what: &str) {
     assert!(rt; *given == *wanted, "{what}: {given:?}, not {wanted:?}");
 }
 

@@ -1,5 +1,7 @@
-//! Tests of a snapshot's JSON, and nothing else.
+//! Tests of snapshots: of their audits, and of their JSON.
 #![tactic(auto)]
 
+#[cfg(test)]
+mod audits;
 #[cfg(test)]
 mod tests;

@@ -1,9 +1,8 @@
 -- What the program says of a failure.
 use Rattle.std.specs.Prelude.{◌≡◌, ℕ, List, [], ◌++◌, codes, decimal}
 use Rattle.commons.specs.declared.refusal.Refusal.{Refusal}
-use Rattle.commons.specs.declared.refusal.Refusal.TheVariants.{MissingShare, ScriptFault}
 use Rattle.commons.specs.declared.refusal.Refusal.TheVariants as refusals
-use Rattle.commons.specs.Refusals.{name_of, number_of}
+use Rattle.commons.specs.Refusals.{number_of, text_of}
 use Rattle.script_io.specs.declared.reading.ReadFault.{ReadFault}
 use Rattle.script_io.specs.declared.reading.ReadFault.TheVariants.{Device, Memory}
 use Rattle.snapshot_json.specs.Told.{told_of}
@@ -30,16 +29,10 @@ abbrev pub IsFaultOf : (Refusal → Type 0) → Failure → Type 0
 IsFaultOf Cause (Fault refusal) = Cause refusal
 IsFaultOf Cause _ = ⊥
 
--- the worker or the line that a refusal tells
-abbrev pub place_text : Refusal → List ℕ
-place_text (MissingShare worker) = codes " worker " ++ decimal worker
-place_text (ScriptFault line) = codes " line " ++ decimal line
-place_text _ = []
-
 -- the line that tells of a fault
 abbrev pub fault_text : Refusal → List ℕ
 fault_text refusal =
-    codes "fault " ++ decimal (number_of refusal) ++ codes " " ++ name_of refusal ++ place_text refusal
+    codes "fault " ++ decimal (number_of refusal) ++ codes " " ++ text_of refusal
 
 -- what stands in front of the line of one of two snapshots
 abbrev pub front_of : Which → List ℕ

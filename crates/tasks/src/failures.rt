@@ -62,13 +62,7 @@ impl fmt::Display for FaultLine {
     ghost output = { λ line. Some (fault_text line.0) };
 
     fn fmt<W: fmt::Write>(&self, f: &mut fmt::Formatter<W>) -> fmt::Result {
-        let refusal = self.0;
-        write!(f, "fault {} {}", refusal.number(), refusal.name())?;
-        match refusal {
-            Refusal::MissingShare(worker) => write!(f, " worker {worker}"),
-            Refusal::ScriptFault(line) => write!(f, " line {line}"),
-            _ => Ok(()),
-        }
+        write!(f, "fault {} {}", self.0.number(), self.0)
     }
 }
 

@@ -4,10 +4,10 @@ ghost use Rattle.std.specs.Prelude.{◌≡◌};
 
 use super::carried::Carried;
 use super::kinds::{Kind, kind_of, name_of};
-use super::span::Span;
+use super::span::{Length, Span};
 use super::threads::{Run, Work, four, one, two};
 use crate::failures::Failure;
-use crate::figures::{Nanos, at};
+use crate::figures::Nanos;
 use commons::limits::{Limits, PutRule};
 use commons::shared::Commons;
 use ground::pool::Ground;
@@ -29,10 +29,8 @@ pub struct Cells<'a> {
     pub caches: &'a str,
     /// How many elements a pool has.
     pub population: u64,
-    /// For how many milliseconds a run goes on, where no number of rounds is asked for.
-    pub millis: u64,
-    /// What a full cache flushes.
-    pub put_rule: PutRule,
+    /// How long a run is.
+    pub length: Length,
 }
 
 /// How many elements are got and put back, about, between two looks at the clock.
@@ -89,9 +87,7 @@ pub fn caches_of(kind: Kind, caches: &[u64]) -> &[u64] {
 
 /// Prints what stands in each column.
 pub fn print_head<R: Print>(rt: &R) -> Result<(), Failure> {
-    Ok(rt.println(format_args!(
-        "workload threads  cache  least ns median ns  greatest  refused of 1000"
-    ))?)
+    Ok(rt.println(format_args!("workload threads  cache        ns  refused of 1000"))?)
 }
 
 /// Measures one cell, and prints it.
@@ -101,34 +97,12 @@ pub fn measure<R: Clock + Print + AllocGlobal + Threads + Sync>(
     kind: Kind,
     threads: u64,
     cache: u64,
-    rounds: Option<u64>,
-    runs: u64,
 ) -> Result<(), Failure> {
-    let (nanos, batch) = match rounds {
-        Some(rounds) => (0, rounds),
-        None => (
-            asked.millis.saturating_mul(1_000_000),
-            BATCH / kind.size().max(1) + 1,
-        ),
-    };
-    let mut picos = Vec::new(rt.alloc());
-    let mut met = 0u64;
-    let mut refused = 0u64;
-    for _run in 0..runs {
-        let run = run_once(rt, asked, cache, kind, threads, nanos, batch)?;
-        push(&mut picos, run.picos / threads.max(1))?;
-        met = met.saturating_add(run.met);
-        refused = refused.saturating_add(run.refused);
-    }
-    picos.sort()?;
-    print_cell(
-        rt,
-        name_of(kind),
-        threads,
-        cache,
-        picos.as_slice(),
-        of_thousand(met, refused),
-    )
+    let run = run_once(rt, asked, cache, kind, threads)?;
+    let name = name_of(kind);
+    let each = Nanos(run.picos / threads.max(1));
+    let refused = of_thousand(run.met, run.refused);
+    Ok(rt.println(format_args!("{name:<8} {threads:>7} {cache:>6} {each} {refused:>16}"))?)
 }
 
 /// How many of 1,000 elements were refused.
@@ -143,9 +117,8 @@ fn run_once<R: Clock + AllocGlobal + Threads + Sync>(
     cache: u64,
     kind: Kind,
     threads: u64,
-    nanos: u64,
-    batch: u64,
 ) -> Result<Run, Failure> {
+    let (nanos, batch) = asked.length.nanos_and_batch(BATCH / kind.size().max(1) + 1);
     let population = asked.population;
     let limits = Limits {
         population,
@@ -156,7 +129,7 @@ fn run_once<R: Clock + AllocGlobal + Threads + Sync>(
         ref_limit: 65_535,
         tries: 64,
         start_count: 0,
-        put_rule: asked.put_rule,
+        put_rule: PutRule::Keep,
     };
     let (ground, mut seat) = Ground::make(rt.alloc(), &limits)?;
     let first = Carried {
@@ -195,20 +168,4 @@ fn run_once<R: Clock + AllocGlobal + Threads + Sync>(
         return Err(Failure::Missing(population.saturating_sub(left)));
     }
     Ok(run)
-}
-
-fn print_cell<R: Print>(
-    rt: &R,
-    name: &str,
-    threads: u64,
-    cache: u64,
-    picos: &[u64],
-    refused: u128,
-) -> Result<(), Failure> {
-    let least = Nanos(at(picos, 0));
-    let median = Nanos(at(picos, picos.len() / 2));
-    let greatest = Nanos(at(picos, picos.len().saturating_sub(1)));
-    Ok(rt.println(format_args!(
-        "{name:<8} {threads:>7} {cache:>6} {least} {median} {greatest} {refused:>16}"
-    ))?)
 }

@@ -42,9 +42,6 @@ const KINDS: [(&str, Kind); 10] = [
     ("clone4", Kind::Clone(4)),
 ];
 
-/// The names of all, with commas between.
-pub const NAMES: &str = "stk1,stk8,stk32,get1,get32,pkt1,pkt32,pkt240,clone1,clone4";
-
 /// What a name stands for.
 pub fn kind_of(name: &str) -> Option<Kind> {
     for (known, kind) in KINDS {

@@ -14,6 +14,26 @@ pub trait Rounds {
     fn rounds(&mut self, count: u64) -> u64;
 }
 
+/// How long a run is.
+#[derive(Clone, Copy)]
+pub enum Length {
+    /// So many milliseconds, and to the end of the batch that goes on then.
+    Millis(u64),
+    /// One batch of so many rounds.
+    Rounds(u64),
+}
+
+impl Length {
+    /// For how many nanoseconds a run goes on, and how many rounds a batch has, which are these
+    /// where the length is a time.
+    pub fn nanos_and_batch(self, usual: u64) -> (u64, u64) {
+        match self {
+            Length::Millis(millis) => (millis.saturating_mul(1_000_000), usual),
+            Length::Rounds(rounds) => (0, rounds),
+        }
+    }
+}
+
 /// When the threads of a run begin, and how long each goes on.
 #[derive(Clone, Copy)]
 pub struct Span {

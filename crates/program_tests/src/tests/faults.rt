@@ -3,45 +3,8 @@ use super::same;
 use super::screen::Narrow;
 use commons::refusal::Refusal;
 use std::test::Fail;
-use tasks::failures::{Failure, FaultLine};
+use tasks::failures::Failure;
 use tasks::tell;
-
-static REFUSALS: [Refusal; 23] = [
-    Refusal::BadPool,
-    Refusal::OutOfMemory,
-    Refusal::NoEntries,
-    Refusal::Contended,
-    Refusal::HeadSpent,
-    Refusal::RefSpent,
-    Refusal::TooManySegs,
-    Refusal::NoRoom,
-    Refusal::TooShort,
-    Refusal::NotDirect,
-    Refusal::NotIndirect,
-    Refusal::InUse,
-    Refusal::NoSuchPacket,
-    Refusal::PacketsFull,
-    Refusal::DeskTaken,
-    Refusal::DeskEmpty,
-    Refusal::NoSuchDesk,
-    Refusal::MissingShare(64),
-    Refusal::StrangerShare,
-    Refusal::ScriptFault(0),
-    Refusal::StepRefused,
-    Refusal::Foreign,
-    Refusal::SamePacket,
-];
-
-#[test]
-fn a_fault_line_has_the_number_and_what_the_refusal_displays(rt: HostRuntime) -> Result<(), Fail> {
-    let alloc = rt.alloc();
-    for refusal in REFUSALS {
-        let line = format!(in alloc; "{}", FaultLine(refusal))?;
-        let displayed = format!(in alloc; "fault {} {}", refusal.number(), refusal)?;
-        same(&rt, &line.as_str(), &displayed.as_str(), "a fault line");
-    }
-    Ok(())
-}
 
 const LINES: [(Failure<'static>, &str); 4] = [
     (

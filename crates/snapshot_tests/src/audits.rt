@@ -1,4 +1,4 @@
-//! The functions that walk the tables. A row that fails is named.
+//! Audits: the functions that walk the tables. A row that fails is named.
 
 use audit_text::json::{faults_json, two_faults_json};
 use audit_text::lines::fault_lines;

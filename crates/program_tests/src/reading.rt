@@ -1,6 +1,6 @@
 //! Scripts that are read whole, up to one byte more than they may have, or not at all.
 
-use crate::equal::same;
+use crate::tests::same;
 use script_io::{ReadFault, Retrying, Tally, read_bytes, read_script};
 use std::io;
 use std::io::{ErrorKind, Read};

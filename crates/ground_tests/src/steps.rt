@@ -1,4 +1,4 @@
-//! The functions that walk the tables. A row that fails is named.
+//! The machine: the functions that walk the tables. A row that fails is named.
 
 use commons::limits::Limits;
 use commons::refusal::Refusal;

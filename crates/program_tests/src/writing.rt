@@ -1,6 +1,6 @@
 //! Texts that are written whole, or up to the write that failed.
 
-use crate::equal::same;
+use crate::tests::same;
 use script_io::{Retrying, Tally, write_out};
 use std::io;
 use std::io::{ErrorKind, Write};
