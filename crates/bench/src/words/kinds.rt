@@ -4,9 +4,20 @@
 /// takes at once.
 #[derive(Clone, Copy, PartialEq, Eq)]
 pub enum Width {
-    One = 1,
-    Eight = 8,
-    ThirtyTwo = 32,
+    One,
+    Eight,
+    ThirtyTwo,
+}
+
+impl Width {
+    /// How many elements that are.
+    fn elements(self) -> u64 {
+        match self {
+            Width::One => 1,
+            Width::Eight => 8,
+            Width::ThirtyTwo => 32,
+        }
+    }
 }
 
 /// The greatest width.
@@ -66,7 +77,7 @@ impl Kind {
     /// How many elements a round gets and puts back.
     pub fn size(self) -> u64 {
         match self {
-            Kind::Stack(width) | Kind::Elements(width) => width as u64,
+            Kind::Stack(width) | Kind::Elements(width) => width.elements(),
             Kind::Alloc => 1,
             Kind::Bulk => 32,
             Kind::Kept => 240,
