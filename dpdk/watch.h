@@ -47,9 +47,15 @@ turn_load(const uint64_t *at)
 }
 
 static __rte_always_inline void
+turn_store(uint64_t *at, uint64_t n)
+{
+	__atomic_store_n(at, n, __ATOMIC_RELAXED);
+}
+
+static __rte_always_inline void
 turn_add(uint64_t *at, uint64_t n)
 {
-	__atomic_store_n(at, turn_load(at) + n, __ATOMIC_RELAXED);
+	turn_store(at, turn_load(at) + n);
 }
 
 static __rte_always_inline int64_t
@@ -80,19 +86,20 @@ turn_begin(struct turn *t, uint64_t seed, unsigned int number)
 	uint64_t random = (seed + number + 1) * UINT64_C(0x9e3779b97f4a7c15);
 
 	random = (random ^ random >> 31) * UINT64_C(0xbf58476d1ce4e5b9);
-	t->random = (random ^ random >> 29) | 1;
+	turn_store(&t->random, (random ^ random >> 29) | 1);
 }
 
 /* Draws from 1 to 2N - 1, N in the mean, so that nothing periodic keeps clear of it. */
 static inline int64_t
 turn_draw(struct turn *t, uint64_t every)
 {
-	uint64_t interval;
+	uint64_t random = turn_load(&t->random), interval;
 
-	t->random ^= t->random << 13;
-	t->random ^= t->random >> 7;
-	t->random ^= t->random << 17;
-	interval = 1 + (t->random >> 11) % (2 * every - 1);
+	random ^= random << 13;
+	random ^= random >> 7;
+	random ^= random << 17;
+	turn_store(&t->random, random);
+	interval = 1 + (random >> 11) % (2 * every - 1);
 	turn_add(&t->drawn, interval);
 	return (int64_t)interval;
 }
