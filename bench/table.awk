@@ -115,7 +115,6 @@ function readme(    objects, mbufs) {
     handed("over an `rte_ring`, a pointer to it", "ring_mp_mc")
     handed("over an `rte_ring`, its 648 bytes copied in and out", "ring_copy")
     handed("over a desk, from C", "worker")
-    handed("over a desk, from Rattle", "rattle")
 }
 
 # ---- SPEED: words, by several threads ----
@@ -234,8 +233,6 @@ function handovers() {
     handovers_row("`rte_ring`, the same, 648 bytes copied in and out", "ring_copy")
     handovers_row("a desk in plain C", "plain")
     handovers_row("a desk from C, `mbufpool_worker_offer` and `_take`", "worker")
-    handovers_row("a desk from Rattle, `offer` and `take`", "rattle")
-    handovers_row("a desk from Rattle, `act`", "rattle-act")
 }
 
 END {

@@ -8,14 +8,10 @@ use std::env::Env;
 use std::io::Print;
 
 /// What can be measured, with its words.
-const WORKLOADS: [(&str, &str); 3] = [
+const WORKLOADS: [(&str, &str); 2] = [
     (
         "words NAMES THREADS CACHES POPULATION LENGTH",
         "lists, elements and packets over the words of a pool",
-    ),
-    (
-        "handovers LENGTH",
-        "a packet handed from one thread to another over a desk, and back over a second one",
     ),
     (
         "memory CACHES",
@@ -30,8 +26,6 @@ pub enum Asked<'a> {
     List,
     /// Rounds over the words of a pool.
     Words(Cells<'a>),
-    /// A packet that two threads hand to one another.
-    Handovers(Length),
     /// How much memory a pool takes with each of these caches.
     Memory(&'a str),
 }
@@ -63,7 +57,6 @@ fn asked_of<'a>(workload: &str, rest: &'a [String]) -> Option<Asked<'a>> {
                 length: length_of(length.as_str())?,
             }))
         }
-        [length] if workload == "handovers" => Some(Asked::Handovers(length_of(length.as_str())?)),
         [caches] if workload == "memory" => Some(Asked::Memory(caches.as_str())),
         _ => None,
     }

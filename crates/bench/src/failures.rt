@@ -16,8 +16,6 @@ pub enum Failure {
     NotInList,
     /// This many elements aren't back in the common list at the end.
     Missing(u64),
-    /// A packet wasn't handed over, or didn't come back.
-    NotHanded,
 }
 
 impl From<io::Error> for Failure {
@@ -51,10 +49,6 @@ pub fn tell<R: Eprint>(rt: &R, failure: &Failure) -> u8 {
         ),
         Failure::Missing(count) => (
             rt.eprintln(format_args!("bench: {count} elements are missing at the end")),
-            1,
-        ),
-        Failure::NotHanded => (
-            rt.eprintln(format_args!("bench: a packet was not handed over")),
             1,
         ),
     };

@@ -4,7 +4,6 @@
 mod command_line;
 mod failures;
 mod figures;
-mod handovers;
 mod memory;
 mod words;
 
@@ -38,7 +37,6 @@ fn measure<R: Runtime + AllocGlobal + Threads + Sync>(
     match asked {
         Asked::List => command_line::list(rt),
         Asked::Words(cells) => words::measure(rt, &cells),
-        Asked::Handovers(length) => handovers::measure(rt, length),
         Asked::Memory(caches) => memory::measure(rt, caches),
     }
 }

@@ -3,15 +3,23 @@
 #![tactic(auto)]
 
 #[cfg(test)]
+mod acts;
+#[cfg(test)]
 mod arms;
 #[cfg(test)]
 mod counts;
 #[cfg(test)]
 mod desks;
 #[cfg(test)]
+mod draws;
+#[cfg(test)]
+mod fit;
+#[cfg(test)]
 mod pair;
 #[cfg(test)]
 mod player;
+#[cfg(test)]
+mod schedules;
 pub mod sees;
 #[cfg(test)]
 mod steps;

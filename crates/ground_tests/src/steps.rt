@@ -1,11 +1,11 @@
 //! The machine: the functions that walk the tables. A row that fails is named.
 
+use crate::acts::{Act, Told, step_of};
+use crate::schedules;
+use crate::schedules::Row;
 use commons::limits::Limits;
 use commons::refusal::Refusal;
 use head_word::{next_count, pack, unpack};
-use random_steps::acts::{Act, Told, step_of};
-use random_steps::schedules;
-use random_steps::schedules::Row;
 use std::alloc::{AllocError, Global};
 use std::fmt::Debug;
 use std::process::Abort;

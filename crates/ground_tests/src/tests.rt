@@ -1,13 +1,13 @@
 //! Scripts of steps that two players take on the words of a ground, beside the machine.
 
+use crate::acts::{Act, Told, step_of};
 use crate::pair::Pair;
+use crate::schedules;
+use crate::schedules::Row;
 use commons::closed::Closed;
 use commons::limits::Limits;
 use commons::packet::{Packet, Seg};
 use commons::refusal::Refusal;
-use random_steps::acts::{Act, Told, step_of};
-use random_steps::schedules;
-use random_steps::schedules::Row;
 use std::alloc::Global;
 use std::fmt::Debug;
 use std::process::Abort;

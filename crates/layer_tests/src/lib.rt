@@ -1,11 +1,15 @@
-//! Tests of the layers below scripts, and nothing else: the pool as lists, a worker's cache, and a
-//! worker's packets.
+//! Tests of the layers below scripts, and nothing else: the pool as lists, a worker's cache, a
+//! worker's packets, depots and guarded workers.
 #![tactic(auto)]
 
 #[cfg(test)]
 mod caches;
 #[cfg(test)]
+mod depots;
+#[cfg(test)]
 mod equal;
+#[cfg(test)]
+mod guarded;
 #[cfg(test)]
 mod lists;
 #[cfg(test)]

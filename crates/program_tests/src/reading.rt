@@ -160,18 +160,6 @@ fn a_reader_that_never_ends_is_read_up_to_the_limit(rt: HostRuntime) {
 }
 
 #[test]
-fn the_bytes_are_those_of_the_reader(rt: HostRuntime) {
-    for text in ["", "a", "pool 3\n", "pool 3\nalloc a\n"] {
-        let mut source = Tally::new(text.as_bytes());
-        match read_script(rt.alloc(), &mut source) {
-            Ok(bytes) => same(&rt, &bytes.as_slice(), &text.as_bytes(), text),
-            Err(fault) => same(&rt, &Some(fault), &None, text),
-        }
-        same(&rt, &source.failed, &false, text);
-    }
-}
-
-#[test]
 fn below_the_tally_an_interrupted_read_is_tried_again(rt: HostRuntime) {
     let mut source = Tally::new(Retrying(Brittle {
         left: 5,

@@ -214,24 +214,3 @@ fn below_the_tally_an_interrupted_write_is_tried_again(rt: HostRuntime) {
     let taken = screen.inner.0.taken.as_slice();
     same(&rt, &taken, &b"abc".as_slice(), "what was written");
 }
-
-#[test]
-fn a_tally_keeps_its_mark_where_nothing_failed(rt: HostRuntime) {
-    let mut screen = Tally::new(Narrow {
-        taken: Vec::new(rt.alloc()),
-        room: 0,
-        each: 1,
-        full: Full::TakesNone,
-        calls: 0,
-    });
-    let none = screen.write(b"").ok();
-    same(&rt, &none, &Some(0), "a write of no bytes");
-    same(&rt, &screen.failed, &false, "after a write of no bytes");
-    let some = screen.write(b"a").ok();
-    same(&rt, &some, &Some(0), "a write of a byte");
-    same(&rt, &screen.failed, &true, "after a write that took none");
-    screen.inner.room = 1;
-    let taken = screen.write(b"a").ok();
-    same(&rt, &taken, &Some(1), "a write with room");
-    same(&rt, &screen.failed, &true, "a mark stays");
-}

@@ -1,8 +1,8 @@
 //! Whether a step answers as its row says.
 
+use crate::acts::Told;
 use commons::packet::Packet;
 use commons::refusal::Refusal;
-use random_steps::acts::Told;
 use step_core::step::Outcome;
 use step_core::view::Head;
 

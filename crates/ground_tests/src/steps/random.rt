@@ -2,11 +2,11 @@
 
 use super::places::assert_counted;
 use super::{answer_of, same};
+use crate::acts::Act;
+use crate::draws::Draws;
+use crate::fit::{any_act, fit_step, view_of};
 use commons::limits::{Limits, PutRule};
 use commons::refusal::Refusal;
-use random_steps::acts::Act;
-use random_steps::draws::Draws;
-use random_steps::fit::{any_act, fit_step, view_of};
 use std::process::Abort;
 use std::test::Fail;
 use step_core::view::{Phase, View};

@@ -1,10 +1,10 @@
 //! Steps each of which breaks one condition.
 
 use super::RefusedRow;
+use crate::acts::Act;
+use crate::acts::Act::*;
+use crate::schedules::{SPENT, TWO};
 use commons::limits::Limits;
-use random_steps::acts::Act;
-use random_steps::acts::Act::*;
-use random_steps::schedules::{SPENT, TWO};
 
 /// A number whose low 32 bits are 0.
 const PAST_32_BITS: u64 = 4_294_967_296;

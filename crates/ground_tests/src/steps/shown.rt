@@ -1,9 +1,9 @@
 //! What a row says of a world.
 
 use super::same;
+use crate::schedules::End;
 use arrayvec::ArrayVec;
 use commons::packet::{Packet, Seg};
-use random_steps::schedules::End;
 use std::process::Abort;
 use step_core::view::{Chain, Desk, Look, Phase, View, WORKER_PART, Work};
 use step_core::world::World;

@@ -5,12 +5,12 @@ ghost use Rattle.ground.specs.Seats.{IsOf};
 
 use super::seats::{join_one, take_one};
 use super::{close_both, open_both, same, step_both};
+use crate::acts::Act;
 use crate::pair::Pair;
 use crate::player::Player;
+use crate::schedules::TWO;
 use commons::limits::Limits;
 use ground::pool::Ground;
-use random_steps::acts::Act;
-use random_steps::schedules::TWO;
 use std::process::Abort;
 use std::test::Fail;
 use step_core::world::World;

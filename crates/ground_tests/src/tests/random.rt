@@ -1,12 +1,12 @@
 //! Random schedules of all steps, by two players beside the machine.
 
 use super::{close_both, open_both, step_both};
+use crate::acts::Act;
+use crate::draws::Draws;
+use crate::fit::{any_act, fit_step, view_of};
 use crate::pair::Pair;
 use commons::limits::{Limits, PutRule};
 use commons::refusal::Refusal;
-use random_steps::acts::Act;
-use random_steps::draws::Draws;
-use random_steps::fit::{any_act, fit_step, view_of};
 use std::process::Abort;
 use std::test::Fail;
 use step_core::view::{Phase, View};

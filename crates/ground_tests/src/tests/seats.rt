@@ -3,15 +3,14 @@
 ghost use Rattle.ground.specs.Seats.{IsOf};
 
 use super::same;
-use crate::pair::Pair;
+use crate::acts::{Act, step_of};
 use crate::player::Player;
+use crate::schedules::TWO;
 use commons::closed::Closed;
 use commons::limits::Limits;
 use commons::refusal::Refusal;
 use ground::pool::Ground;
 use ground::seat::GroundSeat;
-use random_steps::acts::{Act, step_of};
-use random_steps::schedules::TWO;
 use std::alloc::Global;
 use std::process::Abort;
 use std::test::Fail;
@@ -23,20 +22,6 @@ const SEATS: u64 = 64;
 
 /// All parts of as many workers.
 const PARTS: u64 = SEATS * WORKER_PART;
-
-/// Limits within which no ground is made.
-const BAD: [Limits; 4] = [
-    Limits { desks: 65, ..TWO },
-    Limits {
-        population: 0,
-        ..TWO
-    },
-    Limits {
-        population: 16_777_215,
-        ..TWO
-    },
-    Limits { workers: 65, ..TWO },
-];
 
 /// A step is played, and not refused.
 fn assert_played<R: Abort>(rt: &R, answer: &Result<Outcome, Refusal>, act: Act) {
@@ -144,138 +129,6 @@ fn each_of_64_seats_takes_one_of_64_elements(rt: HostRuntime) -> Result<(), Fail
     let closed = first.close(pool)?;
     same(&rt, &(closed.length, closed.top), &(0, 0), "all is taken");
     Ok(())
-}
-
-/// Lends an element that one player has got to another, which takes it over.
-fn hand_on<R: Abort>(rt: &R, pool: &Ground, from: &mut Player, to: &mut Player, element: u32)
-    requires from_of { IsOf pool.now from.old.seat }
-    requires to_of { IsOf pool.now to.old.seat }
-    ensures from_of { IsOf pool.now from.new.seat }
-    ensures to_of { IsOf pool.now to.new.seat }
-{
-    match from.lend(pool, element) {
-        Some(loan) => join_one(rt, pool, to, loan, element),
-        None => same(rt, &element, &u32::MAX, "an element that is to be lent"),
-    }
-}
-
-/// An element that isn't in a player's hand isn't lent.
-fn assert_not_there<R: Abort>(rt: &R, pool: &Ground, player: &mut Player, element: u32)
-    requires { IsOf pool.now player.old.seat }
-    ensures { IsOf pool.now player.new.seat }
-{
-    if let Some(loan) = player.lend(pool, element) {
-        loan.lose();
-        same(rt, &element, &u32::MAX, "an element that isn't in the hand");
-    }
-}
-
-/// Puts an element of the hand on top of a common list whose top is the element after it.
-fn put_one<R: Abort>(rt: &R, pool: &Ground, player: &mut Player, element: u32)
-    requires { IsOf pool.now player.old.seat }
-    ensures { IsOf pool.now player.new.seat }
-{
-    played(rt, pool, player, Act::LoadHead);
-    played(
-        rt,
-        pool,
-        player,
-        Act::StoreLink(u64::from(element), Some(u64::from(element) + 1)),
-    );
-    played(rt, pool, player, Act::Push);
-    played(rt, pool, player, Act::Add(1));
-}
-
-/// What a player between calls has: its part, and how many elements.
-fn has_now(player: &Player) -> (u64, usize, bool) {
-    let view = player.view();
-    (view.part, view.hand.len(), player.is_at_rest())
-}
-
-/// What one seat got another puts: the element is lent, and joined to the other.
-#[test]
-fn an_element_that_one_seat_got_another_puts(rt: HostRuntime) -> Result<(), Fail> {
-    let (pool, mut first) = Player::make(rt.alloc(), &TWO)?;
-    let Some(mut second) = first.split(&pool) else {
-        first.lose();
-        panic!(rt; "a seat of two is split")
-    };
-    take_one(&rt, &pool, &mut first, 0, 3);
-    hand_on(&rt, &pool, &mut first, &mut second, 0);
-    same(
-        &rt,
-        &has_now(&first),
-        &(WORKER_PART - 1, 0, true),
-        "what lent an element",
-    );
-    same(
-        &rt,
-        &has_now(&second),
-        &(WORKER_PART + 1, 1, true),
-        "what it was joined to",
-    );
-    assert_not_there(&rt, &pool, &mut first, 0);
-    put_one(&rt, &pool, &mut second, 0);
-    join_one(&rt, &pool, &mut first, second, 2);
-    same(
-        &rt,
-        &has_now(&first),
-        &(2 * WORKER_PART, 0, true),
-        "the only seat again",
-    );
-    let closed = first.close(pool)?;
-    assert_links(&rt, &closed);
-    Ok(())
-}
-
-/// Three elements are in the common list, as they were at first.
-fn assert_links<R: Abort>(rt: &R, closed: &Closed) {
-    let given = (closed.top, closed.length, closed.links.as_slice());
-    same(
-        rt,
-        &given,
-        &(1, 3, [2, 3, 0].as_slice()),
-        "what was put is there",
-    );
-}
-
-/// Why no ground of these limits is made, if none is.
-fn refusal_of(alloc: Global, limits: &Limits) -> Option<Refusal> {
-    match Player::make(alloc, limits) {
-        Ok((_pool, player)) => {
-            player.lose();
-            None
-        }
-        Err(cause) => Some(cause),
-    }
-}
-
-#[test]
-fn a_ground_outside_the_bounds_is_refused(rt: HostRuntime) {
-    for limits in &BAD {
-        let numbers = (limits.population, limits.workers, limits.desks);
-        let given = (numbers, refusal_of(rt.alloc(), limits));
-        let wanted = (numbers, Some(Refusal::BadPool));
-        same(&rt, &given, &wanted, "a ground outside the bounds");
-    }
-}
-
-/// Why no pair of these limits is made, if none is.
-fn pair_refusal(alloc: Global, limits: &Limits) -> Option<Refusal> {
-    match Pair::make(alloc, limits) {
-        Ok(pair) => {
-            let _ = pair.close();
-            None
-        }
-        Err(cause) => Some(cause),
-    }
-}
-
-#[test]
-fn a_pair_of_one_worker_is_refused(rt: HostRuntime) {
-    let limits = Limits { workers: 1, ..TWO };
-    let cause = pair_refusal(rt.alloc(), &limits);
-    same(&rt, &cause, &Some(Refusal::BadPool), "a pair of one worker");
 }
 
 /// What is left of a ground of this many elements that nobody has used.

@@ -1,6 +1,6 @@
 use Rattle.std.proofs.Common.{◌≡◌, length}
 use Rattle.depot.specs.Lending.{AreOf, IsWorker}
-use Rattle.depot_tests.proofs.tests.drain.Given as goal
+use Rattle.layer_tests.proofs.depots.drain.Given as goal
 
 abbrev pub invariant-loop : goal.invariant-loop
 invariant-loop l =

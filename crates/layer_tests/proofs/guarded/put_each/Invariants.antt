@@ -1,5 +1,5 @@
 use Rattle.guard.specs.Guards.{IsGuard}
-use Rattle.depot_tests.proofs.guarded.put_each.Given as goal
+use Rattle.layer_tests.proofs.guarded.put_each.Given as goal
 
 abbrev pub invariant-loop-element : goal.invariant-loop-element
 invariant-loop-element l = IsGuard l.fn.depot l.worker
