@@ -1,12 +1,17 @@
 -- The status that the program ends with where the words of its command line ask for nothing that
 -- can be done.
-use Rattle.std.specs.Prelude.{ℕ, ◌≡◌, ◌≢◌, ◌<◌, ◌≤◌, List, Option}
+use Rattle.std.specs.Prelude.{ℕ, ◌≡◌, ◌≢◌, ◌<◌, ◌≤◌, ◌⊎◌, List, Option}
+use Rattle.std.specs.Io.KnownBytes.{Appends}
 use Rattle.clap.specs.Values.{kind_of}
 use Rattle.clap.specs.declared.error.Error.{Error}
 use Rattle.clap.specs.declared.error.kind.ErrorKind.{ErrorKind}
 use Rattle.clap.specs.declared.error.kind.ErrorKind.TheVariants.{DisplayHelp, DisplayVersion, OutOfMemory}
+use Rattle.commons.specs.declared.refusal.Refusal.TheVariants as refusals
 use Rattle.command_line.specs.declared.unasked.Unasked.{Unasked}
 use Rattle.command_line.specs.declared.unasked.Unasked.TheVariants.{Said, Memory}
+use Rattle.tasks.specs.Failures.{line_of}
+use Rattle.tasks.specs.Telling.{Heard, IsUntold}
+use Rattle.tasks.specs.declared.failures.Failure.TheVariants.{Fault}
 
 -- what an error of this kind says of the words: that memory was refused, or itself
 abbrev pub unasked_of_kind : ErrorKind → Error → Unasked
@@ -42,3 +47,8 @@ abbrev pub OtherStays : Unasked → Option (List ℕ) → Option (List ℕ) → 
 OtherStays (Said error) output output' errors errors' =
     (IsMistake error → output' ≡ output) × (¬ IsMistake error → errors' ≡ errors)
 OtherStays Memory output output' errors errors' = output' ≡ output
+
+-- the line of memory that was refused was written on the errors, or they failed
+abbrev pub TellsMemory : Heard → Heard → Type 0
+TellsMemory errors errors' =
+    Appends errors.contents errors'.contents (line_of (Fault refusals.OutOfMemory)) ⊎ IsUntold errors errors'

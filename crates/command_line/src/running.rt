@@ -1,10 +1,11 @@
 //! What the program does, and the status that it ends with.
 ghost use Rattle.std.specs.Prelude.{◌≡◌, ◌≤◌, IfErr, IfOk, false};
 ghost use Rattle.command_line.specs.Runs.{Ends, RunsSo, Says};
+ghost use Rattle.tasks.specs.Telling.{heard};
 
 use crate::parsing::{request_of, words};
 use crate::unasked::{Unasked, tell};
-use script_io::Tally;
+use script_io::{Sink, Tally};
 use std::env::Env;
 use std::io::Write;
 use std::sync::Wait;
@@ -16,11 +17,11 @@ use tasks::{print, print_all, print_explained, print_pair};
 /// Does what the command line asks for, and gives the status that the program ends with: 0 where
 /// the whole print was written, or help or the version; 1 where a fault or a failure was told or a
 /// writer failed; 2 where the words are wrong.
-pub fn run<R: Env + AllocGlobal + Threads + Wait + Sync, S: Scripts, O: Write, E: Write>(
+pub fn run<R: Env + AllocGlobal + Threads + Wait + Sync, S: Scripts, O: Write, E: Sink>(
     rt: &R,
     scripts: &S,
     screen: &mut Tally<O>,
-    errors: &mut E,
+    errors: &mut Tally<E>,
 ) -> u8
     requires { screen.old.failed ≡ false }
     // It is the status of the print that was asked for, or of words that ask for none.
@@ -29,8 +30,8 @@ pub fn run<R: Env + AllocGlobal + Threads + Wait + Sync, S: Scripts, O: Write, E
         (S.fails scripts.now)
         (O.contents screen.old.inner)
         (O.contents screen.new.inner)
-        (E.contents errors.old)
-        (E.contents errors.new)
+        (heard E.contents E.told errors.old)
+        (heard E.contents E.told errors.new)
         result }
     // The output didn't fail.
     ensures sound { result ≡ 0 → screen.new.failed ≡ false }
@@ -45,12 +46,12 @@ pub fn run<R: Env + AllocGlobal + Threads + Wait + Sync, S: Scripts, O: Write, E
 }
 
 /// Does what is asked for, or says why nothing is, and gives the status that the program ends with.
-pub fn serve<R: AllocGlobal + Threads + Wait + Sync, S: Scripts, O: Write, E: Write>(
+pub fn serve<R: AllocGlobal + Threads + Wait + Sync, S: Scripts, O: Write, E: Sink>(
     rt: &R,
     scripts: &S,
     asked: Result<Asked<'_>, Unasked>,
     screen: &mut Tally<O>,
-    errors: &mut E,
+    errors: &mut Tally<E>,
 ) -> u8
     requires { screen.old.failed ≡ false }
     // It is the status of the print of this task and file, of these two snapshots, or of all faults,
@@ -60,16 +61,16 @@ pub fn serve<R: AllocGlobal + Threads + Wait + Sync, S: Scripts, O: Write, E: Wr
         asked
         (O.contents screen.old.inner)
         (O.contents screen.new.inner)
-        (E.contents errors.old)
-        (E.contents errors.new)
+        (heard E.contents E.told errors.old)
+        (heard E.contents E.told errors.new)
         result) }
     // or of what is said of words that ask for none.
     ensures said { IfErr asked.entry (λ unasked. Says
         unasked
         (O.contents screen.old.inner)
         (O.contents screen.new.inner)
-        (E.contents errors.old)
-        (E.contents errors.new)
+        (heard E.contents E.told errors.old)
+        (heard E.contents E.told errors.new)
         result) }
     // The output didn't fail.
     ensures sound { result ≡ 0 → screen.new.failed ≡ false }

@@ -1,11 +1,12 @@
 //! Why the words of the command line ask for nothing that can be done, and what is said of that.
 ghost use Rattle.std.specs.Prelude.{◌≡◌, false};
-ghost use Rattle.command_line.specs.Statuses.{IsToldWith, OtherStays, status_of, unasked_by};
+ghost use Rattle.command_line.specs.Statuses.{IsToldWith, OtherStays, TellsMemory, status_of, unasked_by};
+ghost use Rattle.tasks.specs.Telling.{heard};
 
 use clap::Error;
 use clap::error::ErrorKind;
 use commons::refusal::Refusal;
-use script_io::Tally;
+use script_io::{Sink, Tally};
 use std::io;
 use std::io::Write;
 use tasks::failures::Failure;
@@ -47,13 +48,20 @@ impl From<Error> for Unasked {
 }
 
 /// Says why nothing was asked for, and gives the status of the program; where the text can't be
-/// written, 1 in place of 0. No clause says what is written, since `clap` says nothing of the text
-/// of its errors.
-pub fn tell<O: Write, E: Write>(screen: &mut Tally<O>, errors: &mut E, unasked: &Unasked) -> u8
+/// written, 1 in place of 0. Of wrong words, of help and of the version no clause says what is
+/// written, since `clap` says nothing of the text of its errors.
+pub fn tell<O: Write, E: Sink>(
+    screen: &mut Tally<O>,
+    errors: &mut Tally<E>,
+    unasked: &Unasked,
+) -> u8
     ensures status { IsToldWith (status_of unasked.now) result }
     // What isn't written to is as it was.
     ensures other { OtherStays unasked.now (O.contents screen.old.inner) (O.contents screen.new.inner)
-        (E.contents errors.old) (E.contents errors.new) }
+        (E.contents errors.old.inner) (E.contents errors.new.inner) }
+    // Of memory that was refused the line is written, or the errors failed.
+    ensures memory { unasked.now ≡ Unasked.Memory → TellsMemory
+        (heard E.contents E.told errors.old) (heard E.contents E.told errors.new) }
     // The output didn't fail.
     ensures sound { result ≡ 0 → screen.new.failed ≡ false }
 {
@@ -64,13 +72,22 @@ pub fn tell<O: Write, E: Write>(screen: &mut Tally<O>, errors: &mut E, unasked: 
 }
 
 /// Writes help and the version to the standard output, and all else as errors.
-fn say<O: Write, E: Write>(screen: &mut O, errors: &mut E, unasked: &Unasked) -> io::Result<()>
-    ensures { OtherStays unasked.now (O.contents screen.old) (O.contents screen.new)
-        (E.contents errors.old) (E.contents errors.new) }
+fn say<O: Write, E: Sink>(
+    screen: &mut O,
+    errors: &mut Tally<E>,
+    unasked: &Unasked,
+) -> io::Result<()>
+    ensures other { OtherStays unasked.now (O.contents screen.old) (O.contents screen.new)
+        (E.contents errors.old.inner) (E.contents errors.new.inner) }
+    ensures memory { unasked.now ≡ Unasked.Memory → TellsMemory
+        (heard E.contents E.told errors.old) (heard E.contents E.told errors.new) }
 {
     match unasked {
         Unasked::Said(error) if error.use_stderr() => write!(errors, "{error}"),
         Unasked::Said(error) => write!(screen, "{error}"),
-        Unasked::Memory => tasks::tell(errors, &Failure::Fault(Refusal::OutOfMemory)),
+        Unasked::Memory => match tasks::tell(errors, &Failure::Fault(Refusal::OutOfMemory)) {
+            Ok(()) => Ok(()),
+            Err(_) => Err(io::Error::from(io::ErrorKind::WriteZero)),
+        },
     }
 }

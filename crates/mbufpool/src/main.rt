@@ -8,5 +8,6 @@ use tasks::scripts::Disk;
 
 fn main(rt: HostRuntime) -> ExitCode {
     let mut screen = Tally::new(Retrying(rt.stdout()));
-    ExitCode::from(command_line::run(&rt, &Disk(&rt), &mut screen, &mut rt.stderr()))
+    let mut errors = Tally::new(Retrying(rt.stderr()));
+    ExitCode::from(command_line::run(&rt, &Disk(&rt), &mut screen, &mut errors))
 }

@@ -46,9 +46,9 @@ fn told<R: Threads + Wait + Sync + AllocGlobal, S: Scripts>(
     let words = words_of(rt.alloc(), line)?;
     let asked = request_of(rt.alloc(), words.as_slice());
     let mut screen = Tally::new(Narrow::new(rt.alloc(), room));
-    let mut errors = Narrow::new(rt.alloc(), room);
+    let mut errors = Tally::new(Narrow::new(rt.alloc(), room));
     let status = serve(rt, scripts, asked, &mut screen, &mut errors);
-    Ok((screen.inner.text()?, errors.text()?, status))
+    Ok((screen.inner.text()?, errors.inner.text()?, status))
 }
 
 /// Asserts that each of these command lines, a line each, has this output, these errors and this

@@ -1,16 +1,13 @@
 //! What is told behind the line of a script's fault.
 
-ghost use Rattle.std.specs.Prelude.{◌≡◌, MatchOption, OnOk};
-ghost use Rattle.std.specs.Io.KnownBytes.{Appends};
-ghost use Rattle.script_reasons.specs.Seconds.{IsSecond, IsStepSecond, IsWritten, second_text};
+ghost use Rattle.std.specs.Prelude.{MatchOption};
+ghost use Rattle.script_reasons.specs.Seconds.{IsSecond, IsStepSecond, IsWritten};
 ghost use Rattle.script_text.specs.Grammar.{IsSomeScript};
 ghost use Rattle.script_text.specs.StepGrammar.{IsSomeStepScript};
 
 use crate::explaining::{explain, explain_steps};
 use crate::reason::Explanation;
 use std::alloc::Global;
-use std::io;
-use std::io::Write;
 
 /// What is told behind the line of a script's fault.
 #[derive(Drop)]
@@ -51,22 +48,5 @@ fn written(alloc: Global, explanation: &Explanation<'_>) -> Second
     match explanation.write(&mut text) {
         Ok(()) => Second::Line(text),
         Err(_) => Second::NoMemory,
-    }
-}
-
-impl Second {
-    /// Writes the line, with its end. The error is the writer's; part of the line may then be
-    /// written.
-    pub fn write<W: Write>(&self, out: &mut W) -> io::Result<()>
-        ensures { OnOk result (Appends (W.contents out.old) (W.contents out.new)
-            (second_text self.now)) }
-    {
-        match self {
-            Second::Line(text) => {
-                out.write_all(text.as_slice())?;
-                writeln!(out)
-            }
-            Second::NoMemory => writeln!(out, "not explained: memory was refused"),
-        }
     }
 }

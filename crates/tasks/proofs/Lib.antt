@@ -1,2 +1,3 @@
 mod Misreadings
 mod Prefixes
+mod Tellings

@@ -8,3 +8,4 @@ pub mod Halves
 pub mod Listings
 pub mod Pairs
 pub mod Replays
+pub mod Telling

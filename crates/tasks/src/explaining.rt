@@ -1,21 +1,21 @@
 //! What is printed of a script, or its failure and the line that explains it.
-ghost use Rattle.std.specs.Prelude.{◌≡◌, ◌↔◌, IfErr, IfOk, OnOk, false, true};
-ghost use Rattle.std.specs.Io.KnownBytes.{Appends};
+ghost use Rattle.std.specs.Prelude.{◌≡◌, ◌↔◌, IfErr, IfOk, false, true};
 ghost use Rattle.tasks.specs.Ends.{IsBrokenOff, status_of_end};
-ghost use Rattle.tasks.specs.Explained.{EndsExplained, FailsExplained, IsSecondFor, line_of_explained};
+ghost use Rattle.tasks.specs.Explained.{EndsExplained, FailsExplained, IsSecondFor};
 ghost use Rattle.tasks.specs.Forms.{kind_of};
 ghost use Rattle.tasks.specs.Replays.{PrintsReading};
+ghost use Rattle.tasks.specs.Telling.{IsUntold, heard};
 
-use crate::failures::{Failure, tell};
+use crate::failures::Failure;
 use crate::kind::Kind;
 use crate::printing::{End, unread};
 use crate::replay;
 use crate::scripts::Scripts;
 use crate::task::{Request, Task};
-use script_io::{Tally, write_out};
+use crate::telling::tell_explained;
+use script_io::{Sink, Tally, write_out};
 use script_reasons::second::{Second, second_line, second_line_of_steps};
 use std::alloc::Global;
-use std::io;
 use std::io::Write;
 use std::sync::Wait;
 use std::thread::Threads;
@@ -29,13 +29,13 @@ pub struct ExplainedFailure<'a> {
 
 /// Prints what is asked for of a script, or tells why there is nothing to print, and behind the line
 /// of a fault what explains it. Of the two writers the same is said as by `print`.
-pub fn print_explained<R: Threads + Wait + Sync, S: Scripts, O: Write, E: Write>(
+pub fn print_explained<R: Threads + Wait + Sync, S: Scripts, O: Write, E: Sink>(
     rt: &R,
     alloc: Global,
     scripts: &S,
     request: &Request<'_>,
     screen: &mut Tally<O>,
-    errors: &mut E,
+    errors: &mut Tally<E>,
 ) -> End
     requires { screen.old.failed ≡ false }
     // It is the print for bytes that the reading of this file gave, or the failure that came.
@@ -46,12 +46,15 @@ pub fn print_explained<R: Threads + Wait + Sync, S: Scripts, O: Write, E: Write>
         request.now.task
         (O.contents screen.old.inner)
         (O.contents screen.new.inner)
-        (E.contents errors.old)
-        (E.contents errors.new)
+        (E.contents errors.old.inner)
+        (E.contents errors.new.inner)
         result }
     // The output failed exactly where the print was broken off.
     ensures failed { (screen.new.failed ≡ true) ↔ IsBrokenOff result }
     ensures sound { status_of_end result ≡ 0 → screen.new.failed ≡ false }
+    // The errors failed where the line of the failure wasn't written whole.
+    ensures untold { result ≡ End.Untold →
+        IsUntold (heard E.contents E.told errors.old) (heard E.contents E.told errors.new) }
 {
     match printed_explained(rt, alloc, scripts, request) {
         Ok(text) => match write_out(screen, text.as_slice()) {
@@ -107,18 +110,5 @@ fn second_for(alloc: Global, script: &[u8], task: Task) -> Option<Second>
         (Task::Steps, _) => second_line_of_steps(alloc, script),
         (_, Kind::Script) => second_line(alloc, script),
         (_, Kind::Snapshot) => None,
-    }
-}
-
-/// Writes the line that tells of a failure, and behind it the one that explains it. The error is the
-/// writer's; part of the lines may then be written.
-pub fn tell_explained<E: Write>(errors: &mut E, failure: &ExplainedFailure<'_>) -> io::Result<()>
-    ensures { OnOk result
-        (Appends (E.contents errors.old) (E.contents errors.new) (line_of_explained failure.now)) }
-{
-    tell(errors, &failure.failure)?;
-    match &failure.second {
-        None => Ok(()),
-        Some(second) => second.write(errors),
     }
 }

@@ -1,14 +1,10 @@
-//! Why nothing was printed of a script or a snapshot, or of two, and the line that tells of it.
-ghost use Rattle.std.specs.Prelude.{◌≡◌, ◌++◌, OnOk, Some};
-ghost use Rattle.std.specs.Io.KnownBytes.{Appends};
-ghost use Rattle.tasks.specs.Failures.{cause_line, fault_text, front_of, line_of};
-ghost use Rattle.tasks.specs.Pairs.{line_of_pair, older_prefix, refusal_prefix};
+//! Why nothing was printed of a script or a snapshot, or of two.
+ghost use Rattle.std.specs.Prelude.{◌≡◌};
+ghost use Rattle.tasks.specs.Failures.{front_of};
+ghost use Rattle.tasks.specs.Pairs.{older_prefix, refusal_prefix};
 
 use crate::comparing::Difference;
 use commons::refusal::Refusal;
-use snapshot_json::fault::SnapshotFault;
-use std::io::Write;
-use std::{fmt, io};
 
 /// Why nothing was printed of a script or a snapshot.
 #[derive(Drop)]
@@ -17,8 +13,8 @@ pub enum Failure<'a> {
     Unreadable(&'a str),
     /// The script has a fault, a snapshot isn't one of a pool, or memory was refused.
     Fault(Refusal),
-    /// The bytes are no snapshot's, and this is why.
-    Misread(SnapshotFault),
+    /// The bytes are no snapshot's, and this line says why.
+    Misread(Vec<u8>),
     /// The snapshot has a fault, and this is its line.
     Audited(Vec<u8>),
     /// Of two snapshots that stand in one text, this one has a failure.
@@ -37,8 +33,8 @@ pub enum Which {
 pub enum Cause {
     /// It isn't one of a pool.
     Refused(Refusal),
-    /// The bytes are no snapshot's, and this is why.
-    Misread(SnapshotFault),
+    /// The bytes are no snapshot's, and this line says why.
+    Misread(Vec<u8>),
     /// The snapshot has a fault, and this is its line.
     Audited(Vec<u8>),
 }
@@ -54,65 +50,13 @@ impl From<Refusal> for Failure<'_> {
     }
 }
 
-/// The line that tells of a fault: the refusal's number and name, and the worker or the line.
-#[derive(Clone, Copy)]
-pub struct FaultLine(pub Refusal);
-
-impl fmt::Display for FaultLine {
-    ghost output = { λ line. Some (fault_text line.0) };
-
-    fn fmt<W: fmt::Write>(&self, f: &mut fmt::Formatter<W>) -> fmt::Result {
-        write!(f, "fault {} {}", self.0.number(), self.0)
-    }
-}
-
-/// Writes the line that tells of a failure. The error is the writer's; part of the line may then
-/// be written.
-pub fn tell<E: Write>(errors: &mut E, failure: &Failure<'_>) -> io::Result<()>
-    ensures { OnOk result (Appends (E.contents errors.old) (E.contents errors.new) (line_of failure.now)) }
-{
-    match failure {
-        Failure::Unreadable(file) => writeln!(errors, "cannot read {file}"),
-        Failure::Fault(refusal) => writeln!(errors, "{}", FaultLine(*refusal)),
-        Failure::Misread(fault) => writeln!(errors, "{fault}"),
-        Failure::Audited(line) => {
-            errors.write_all(line.as_slice())?;
-            writeln!(errors)
-        }
-        Failure::OfTwo(which, cause) => tell_of_two(errors, *which, cause),
-    }
-}
-
-/// Writes the line of one of two snapshots, which says which.
-fn tell_of_two<E: Write>(errors: &mut E, which: Which, cause: &Cause) -> io::Result<()>
-    ensures { OnOk result (Appends (E.contents errors.old) (E.contents errors.new)
-        (front_of which ++ cause_line cause.now)) }
-{
-    errors.write_all(front(which))?;
-    tell_cause(errors, cause)
-}
-
-/// What stands in front of that line.
+/// What stands in front of the line of one of two snapshots.
 pub(crate) fn front(which: Which) -> &'static [u8]
     ensures { result.now ≡ front_of which }
 {
     match which {
         Which::First => b"first: ",
         Which::Second => b"second: ",
-    }
-}
-
-/// Writes the line behind that.
-fn tell_cause<E: Write>(errors: &mut E, cause: &Cause) -> io::Result<()>
-    ensures { OnOk result (Appends (E.contents errors.old) (E.contents errors.new) (cause_line cause.now)) }
-{
-    match cause {
-        Cause::Refused(refusal) => writeln!(errors, "{}", FaultLine(*refusal)),
-        Cause::Misread(fault) => writeln!(errors, "{fault}"),
-        Cause::Audited(line) => {
-            errors.write_all(line.as_slice())?;
-            writeln!(errors)
-        }
     }
 }
 
@@ -127,37 +71,8 @@ pub enum PairFailure<'a> {
     Differ(Difference),
 }
 
-/// Writes the line that tells of a failure. The error is the writer's; part of the line may then
-/// be written.
-pub fn tell_pair<E: Write>(errors: &mut E, failure: &PairFailure<'_>) -> io::Result<()>
-    ensures { OnOk result (Appends (E.contents errors.old) (E.contents errors.new) (line_of_pair failure.now)) }
-{
-    match failure {
-        PairFailure::Newer(failure) => tell(errors, failure),
-        PairFailure::Older(failure) => tell_older(errors, failure),
-        PairFailure::Differ(both) => {
-            let name = both.limit.name();
-            writeln!(
-                errors,
-                "limits differ: {name} {} and {}",
-                both.newer, both.older
-            )
-        }
-    }
-}
-
-/// Writes the line of a failure of the older one, which says so, but where it names a file or
-/// memory is missing.
-fn tell_older<E: Write>(errors: &mut E, failure: &Failure<'_>) -> io::Result<()>
-    ensures { OnOk result (Appends (E.contents errors.old) (E.contents errors.new)
-        (older_prefix failure.now ++ line_of failure.now)) }
-{
-    errors.write_all(before(failure))?;
-    tell(errors, failure)
-}
-
 /// What stands in front of the line of a failure of the older one.
-fn before(failure: &Failure<'_>) -> &'static [u8]
+pub(crate) fn before(failure: &Failure<'_>) -> &'static [u8]
     ensures { result.now ≡ older_prefix failure.now }
 {
     match failure {

@@ -19,9 +19,10 @@ mod running;
 pub mod scripts;
 mod since;
 pub mod task;
+pub mod telling;
 
 pub use explaining::print_explained;
-pub use failures::{tell, tell_pair};
 pub use listing::{print_all, printed_all};
 pub use printing::{End, print, printed};
 pub use since::{print_pair, printed_pair};
+pub use telling::{tell, tell_pair};

@@ -4,21 +4,23 @@ ghost use Rattle.tasks.specs.Ends.{IsBrokenOff, status_of_end};
 ghost use Rattle.snapshot_json.specs.declared.text.Text.TheVariants.{One, Repeating};
 ghost use Rattle.tasks.specs.Both.{FailsEither};
 ghost use Rattle.tasks.specs.Listings.{EndsAsListing, FailsListing, FailsListingAt, GivesListing, HasFaults, HasSomeFaults, IsBothListing, IsListedOf, IsListingCause, IsListingOf, IsOneListing, IsUnlisted};
+ghost use Rattle.tasks.specs.Telling.{IsUntold, heard};
 ghost use Rattle.tasks.specs.declared.kind.Kind.{Kind};
 
 use crate::auditing::misread;
 use crate::both::of_two;
-use crate::failures::{Failure, Which, tell};
+use crate::failures::{Failure, Which};
 use crate::halves::halves;
 use crate::kind::Kind;
 use crate::listed::{Found, Print, print_of, print_of_both};
 use crate::printing::{End, unread};
 use crate::scripts::Scripts;
 use crate::task::{Form, Listing};
+use crate::telling::tell;
 use audit_text::stack_of;
 use commons::refusal::Refusal;
 use commons::seq::Seq;
-use script_io::{Tally, write_out};
+use script_io::{Sink, Tally, write_out};
 use snapshot::all_faults::{all_faults, all_faults_on};
 use snapshot::snapshot::Snapshot;
 use snapshot_json::read_text;
@@ -29,12 +31,12 @@ use std::io::Write;
 /// Prints all faults of the snapshot that a name stands for, or of two in one file, and how many they
 /// are; or tells why there is nothing to print. Of the two writers the same is said as by `print`. A
 /// whole print ends with `Listed`, which has that number.
-pub fn print_all<S: Scripts, O: Write, E: Write>(
+pub fn print_all<S: Scripts, O: Write, E: Sink>(
     alloc: Global,
     scripts: &S,
     listing: &Listing<'_>,
     screen: &mut Tally<O>,
-    errors: &mut E,
+    errors: &mut Tally<E>,
 ) -> End
     requires { screen.old.failed ≡ false }
     // It is the print for bytes that the reading of the file gave, or the failure that came.
@@ -45,12 +47,15 @@ pub fn print_all<S: Scripts, O: Write, E: Write>(
         listing.now.form
         (O.contents screen.old.inner)
         (O.contents screen.new.inner)
-        (E.contents errors.old)
-        (E.contents errors.new)
+        (E.contents errors.old.inner)
+        (E.contents errors.new.inner)
         result }
     // The output failed exactly where the print was broken off.
     ensures failed { (screen.new.failed ≡ true) ↔ IsBrokenOff result }
     ensures sound { status_of_end result ≡ 0 → screen.new.failed ≡ false }
+    // The errors failed where the line of the failure wasn't written whole.
+    ensures untold { result ≡ End.Untold →
+        IsUntold (heard E.contents E.told errors.old) (heard E.contents E.told errors.new) }
 {
     match printed_all(alloc, scripts, listing) {
         Ok(print) => match write_out(screen, print.text.as_slice()) {
@@ -145,7 +150,7 @@ fn listed<'a>(alloc: Global, bytes: &[u8]) -> Result<Found, Failure<'a>>
 {
     match read_text(alloc, bytes) {
         Ok(text) => of_text(alloc, text),
-        Err(fault) => Err(misread(fault)),
+        Err(fault) => Err(misread(alloc, &fault)),
     }
 }
 

@@ -4,13 +4,15 @@ ghost use Rattle.tasks.specs.Ends.{IsBrokenOff, status_of_end};
 ghost use Rattle.tasks.specs.Failures.{IsUnread};
 ghost use Rattle.tasks.specs.Forms.{kind_of};
 ghost use Rattle.tasks.specs.Replays.{EndsAs, FailsAt, PrintsReading};
+ghost use Rattle.tasks.specs.Telling.{IsUntold, heard};
 
-use crate::failures::{Failure, tell};
+use crate::failures::Failure;
 use crate::replay;
 use crate::scripts::Scripts;
 use crate::task::Request;
+use crate::telling::tell;
 use commons::refusal::Refusal;
-use script_io::{ReadFault, Tally, write_out};
+use script_io::{ReadFault, Sink, Tally, write_out};
 use std::alloc::Global;
 use std::io::Write;
 use std::sync::Wait;
@@ -47,14 +49,14 @@ impl End {
 
 /// Prints what is asked for of the script that a request names, or tells why there is nothing to
 /// print. Whichever of the two writers isn't written to is then as before, and after a write that
-/// failed nothing is written on either.
-pub fn print<R: Threads + Wait + Sync, S: Scripts, O: Write, E: Write>(
+/// failed nothing is written on either. A line on the errors takes no memory.
+pub fn print<R: Threads + Wait + Sync, S: Scripts, O: Write, E: Sink>(
     rt: &R,
     alloc: Global,
     scripts: &S,
     request: &Request<'_>,
     screen: &mut Tally<O>,
-    errors: &mut E,
+    errors: &mut Tally<E>,
 ) -> End
     requires { screen.old.failed ≡ false }
     // It is the print for bytes that the reading of this file gave, or the failure that came.
@@ -65,12 +67,15 @@ pub fn print<R: Threads + Wait + Sync, S: Scripts, O: Write, E: Write>(
         request.now.task
         (O.contents screen.old.inner)
         (O.contents screen.new.inner)
-        (E.contents errors.old)
-        (E.contents errors.new)
+        (E.contents errors.old.inner)
+        (E.contents errors.new.inner)
         result }
     // The output failed exactly where the print was broken off.
     ensures failed { (screen.new.failed ≡ true) ↔ IsBrokenOff result }
     ensures sound { status_of_end result ≡ 0 → screen.new.failed ≡ false }
+    // The errors failed where the line of the failure wasn't written whole.
+    ensures untold { result ≡ End.Untold →
+        IsUntold (heard E.contents E.told errors.old) (heard E.contents E.told errors.new) }
 {
     match printed(rt, alloc, scripts, request) {
         Ok(text) => match write_out(screen, text.as_slice()) {

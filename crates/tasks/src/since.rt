@@ -3,30 +3,32 @@
 ghost use Rattle.std.specs.Prelude.{◌≡◌, ◌↔◌, IfErr, IfOk, None, Some, false, true};
 ghost use Rattle.tasks.specs.Ends.{IsBrokenOff, status_of_end};
 ghost use Rattle.tasks.specs.Pairs.{EndsAsPair, FailsAlike, FailsAuditAt, FailsPair, GivesAudited, IsSinceAs, PrintsPair, first_difference};
+ghost use Rattle.tasks.specs.Telling.{IsUntold, heard};
 ghost use Rattle.tasks.specs.declared.kind.Kind.{Kind};
 
 use crate::auditing::{Placed, audited};
 use crate::comparing::differing;
-use crate::failures::{Failure, PairFailure, tell_pair};
+use crate::failures::{Failure, PairFailure};
 use crate::kind::Kind;
 use crate::printing::{End, unread};
 use crate::scripts::Scripts;
 use crate::task::{Form, Pair};
+use crate::telling::tell_pair;
 use commons::refusal::Refusal;
 use pool_model::statement::Statement;
-use script_io::{Tally, write_out};
+use script_io::{Sink, Tally, write_out};
 use stays::{since_json, since_text};
 use std::alloc::Global;
 use std::io::Write;
 
 /// Prints the audit of the newer of two snapshots of one pool, and which packets stay since the older
 /// one, or tells why there is nothing to print. Of the two writers the same is said as by `print`.
-pub fn print_pair<S: Scripts, O: Write, E: Write>(
+pub fn print_pair<S: Scripts, O: Write, E: Sink>(
     alloc: Global,
     scripts: &S,
     pair: &Pair<'_>,
     screen: &mut Tally<O>,
-    errors: &mut E,
+    errors: &mut Tally<E>,
 ) -> End
     requires { screen.old.failed ≡ false }
     // It is the print for bytes that the readings of both files gave, or the failure that came.
@@ -38,12 +40,15 @@ pub fn print_pair<S: Scripts, O: Write, E: Write>(
         pair.now.form
         (O.contents screen.old.inner)
         (O.contents screen.new.inner)
-        (E.contents errors.old)
-        (E.contents errors.new)
+        (E.contents errors.old.inner)
+        (E.contents errors.new.inner)
         result }
     // The output failed exactly where the print was broken off.
     ensures failed { (screen.new.failed ≡ true) ↔ IsBrokenOff result }
     ensures sound { status_of_end result ≡ 0 → screen.new.failed ≡ false }
+    // The errors failed where the line of the failure wasn't written whole.
+    ensures untold { result ≡ End.Untold →
+        IsUntold (heard E.contents E.told errors.old) (heard E.contents E.told errors.new) }
 {
     match printed_pair(alloc, scripts, pair) {
         Ok(text) => match write_out(screen, text.as_slice()) {

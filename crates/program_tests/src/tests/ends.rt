@@ -66,7 +66,7 @@ fn ended<R: Threads + Wait + Sync + AllocGlobal>(
 ) -> Result<(End, String, String), Fail> {
     let words = words_of(rt.alloc(), line)?;
     let mut screen = Tally::new(Narrow::new(rt.alloc(), room));
-    let mut errors = Narrow::new(rt.alloc(), errors_room);
+    let mut errors = Tally::new(Narrow::new(rt.alloc(), errors_room));
     let end = match request_of(rt.alloc(), words.as_slice()) {
         Ok(Asked::One(request)) => {
             print(rt, rt.alloc(), &TABLES, &request, &mut screen, &mut errors)
@@ -80,7 +80,7 @@ fn ended<R: Threads + Wait + Sync + AllocGlobal>(
         }
         Err(_) => return Err(Fail::from("nothing is asked for")),
     };
-    Ok((end, screen.inner.text()?, errors.text()?))
+    Ok((end, screen.inner.text()?, errors.inner.text()?))
 }
 
 /// A writer without room for all has the first bytes, and the other one has nothing.

@@ -2,9 +2,11 @@
 use super::same;
 use super::screen::Narrow;
 use commons::refusal::Refusal;
+use script_io::Tally;
 use std::test::Fail;
 use tasks::failures::Failure;
 use tasks::tell;
+use tasks::telling::Broken;
 
 const LINES: [(Failure<'static>, &str); 4] = [
     (
@@ -28,11 +30,11 @@ const LINES: [(Failure<'static>, &str); 4] = [
 #[test]
 fn a_failure_has_its_line(rt: HostRuntime) -> Result<(), Fail> {
     for (failure, line) in &LINES {
-        let mut errors = Vec::new(rt.alloc());
-        tell(&mut errors, failure)?;
-        same(&rt, &String::from_utf8(errors)?.as_str(), line, line);
-        let untold = tell(&mut Narrow::new(rt.alloc(), 0), failure);
-        same(&rt, &untold.is_err(), &true, "untold");
+        let mut errors = Tally::new(Narrow::new(rt.alloc(), usize::MAX));
+        same(&rt, &tell(&mut errors, failure), &Ok(()), line);
+        same(&rt, &errors.inner.text()?.as_str(), line, line);
+        let mut full = Tally::new(Narrow::new(rt.alloc(), 0));
+        same(&rt, &tell(&mut full, failure), &Err(Broken), "untold");
     }
     Ok(())
 }

@@ -1,0 +1,6 @@
+use Rattle.tasks.proofs.Tellings.{puts_then}
+use Rattle.tasks.proofs.telling.put_fault.Goals as goal
+
+-- the pieces stand one behind the other
+pub returns : goal.returns
+returns g c = puts_then _ _ _ _ _ (puts_then _ _ _ _ _ c.put_code.ensures c.put.ensures) c.put_name.ensures
