@@ -20,6 +20,8 @@ pub mod Listing
 pub mod Sites
 pub mod Taking
 pub mod Opens
+pub mod Passing
+pub mod Fills
 pub mod Vacant
 pub mod Tokens
 pub mod Crossing

@@ -13,14 +13,16 @@ use Rattle.depot.specs.Rule.{Sat}
 use Rattle.depot.specs.Seats.{Logs, LastRead, IsCause, IsCauseAt, IsGiveCause, WasRead, Stays, Comes, Goes, Loses, GivesOnce}
 
 pub logs-same : (v w : View) → w.heads ≡ v.heads → w.lost ≡ v.lost → w.population ≡ v.population →
-    w.rounds ≡ v.rounds → w.resting ≡ v.resting → Logs v w
-logs-same v w heads lost population rounds resting = record {
+    w.rounds ≡ v.rounds → w.resting ≡ v.resting → w.let_out ≡ v.let_out → w.taken_in ≡ v.taken_in → Logs v w
+logs-same v w heads lost population rounds resting let_out taken_in = record {
   more = [];
   heads = heads ∙ sym (append-nil v.heads);
   lost = omega arith;
   population = population;
   rounds = rounds;
   resting = resting;
+  let_out = let_out;
+  taken_in = taken_in;
 }
 
 -- one after another
@@ -32,6 +34,8 @@ logs-on u v w a b = record {
   population = b.population ∙ a.population;
   rounds = b.rounds ∙ a.rounds;
   resting = b.resting ∙ a.resting;
+  let_out = b.let_out ∙ a.let_out;
+  taken_in = b.taken_in ∙ a.taken_in;
 }
 
 last-on : (u v w : View) (k : Stack) (P : ℕ → Type 0) → Logs u v → LastRead v w k P → LastRead u w k P
@@ -101,7 +105,7 @@ cause-then tries Contended u v w a b = let x = b.lost in omega arith
 cause-then tries HeadSpent u v w a b = (a.0, read-then u v w _ _ a.1 b)
 
 pub stays-same : (m : Sat) → Stays m m
-stays-same m = record { logs = logs-same m.0 m.0 refl refl refl refl refl; hand = refl; out = refl; magazines = refl }
+stays-same m = record { logs = logs-same m.0 m.0 refl refl refl refl refl refl refl; hand = refl; out = refl; magazines = refl }
 
 pub stays-on : (a b c : Sat) → Stays a b → Stays b c → Stays a c
 stays-on a b c x y = record {
@@ -133,6 +137,8 @@ read-stays m m' k head is =
         population = refl;
         rounds = refl;
         resting = refl;
+        let_out = refl;
+        taken_in = refl;
       };
       hand = refl;
       out = refl;

@@ -22,6 +22,7 @@ pub view-logs : (a b : Sat) → b.0 ≡ a.0 → Logs a.0 b.0
 view-logs a b is =
     logs-same a.0 b.0 (ap (λ (v : View). v.heads) is) (ap (λ (v : View). v.lost) is)
     (ap (λ (v : View). v.population) is) (ap (λ (v : View). v.rounds) is) (ap (λ (v : View). v.resting) is)
+    (ap (λ (v : View). v.let_out) is) (ap (λ (v : View). v.taken_in) is)
 
 -- the magazines are as they were, and then as they were again
 pub keeps-same : (rounds : ℕ) (a b : Sat) → b ≡ a → Keeps rounds a b

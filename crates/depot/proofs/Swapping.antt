@@ -131,6 +131,8 @@ module _ (g : Site) (w : Rack) (t n : Seat (List ℕ) View) (k : Stack) (m : ℕ
     population = comes.logs.population;
     rounds = comes.logs.rounds;
     resting = comes.logs.resting;
+    let_out = comes.logs.let_out;
+    taken_in = comes.logs.taken_in;
   })
 
   pub come-lent : SameLent w.seat.me n.me

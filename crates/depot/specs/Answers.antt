@@ -93,7 +93,7 @@ notes st m found m' = (m' ≡ (noting m.0 m.1, m.1)) × IsOwned st.slots m.0
 -- A view cut in two: one keeps what it has noted, with the magazines; the other has all else of the
 -- hand.
 abbrev pub kept_part : View → View
-kept_part v = record v { hand = v.kept; kept = [] }
+kept_part v = record v { hand = v.kept; kept = []; let_out = v.let_out ++ minus v.hand v.kept }
 
 abbrev pub other_part : View → View
 other_part v = record {
@@ -106,11 +106,17 @@ other_part v = record {
   chain = None;
   heads = [];
   lost = 0;
+  let_out = [];
+  taken_in = [];
   resting = no_resting;
 }
 
 abbrev pub both_views : View → View → View
-both_views v w = record v { hand = v.hand ++ w.hand; out = v.out ++ w.out }
+both_views v w = record v {
+  hand = v.hand ++ w.hand;
+  out = v.out ++ w.out;
+  taken_in = v.taken_in ++ w.hand;
+}
 
 abbrev pub spent_view : View
 spent_view = record {
@@ -123,5 +129,7 @@ spent_view = record {
   chain = None;
   heads = [];
   lost = 0;
+  let_out = [];
+  taken_in = [];
   resting = no_resting;
 }

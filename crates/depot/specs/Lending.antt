@@ -1,5 +1,5 @@
 -- What contracts say of workers and of loans.
-use Rattle.std.specs.Prelude.{◌≡◌, ℕ, ◌+◌, ◌%◌, ◌^◌, ◌≤◌, List, [], ◌∷◌, length, Some, Result, Ok, Err}
+use Rattle.std.specs.Prelude.{◌≡◌, ℕ, ◌+◌, ◌%◌, ◌^◌, ◌<◌, ◌≤◌, List, [], ◌∷◌, length, Some, Result, Ok, Err}
 use Rattle.commons.specs.Bag.{bag}
 use Rattle.depot.specs.declared.cause.Cause.{Cause}
 use Rattle.depot.specs.declared.loans.Loans.{Loans}
@@ -9,7 +9,7 @@ use Rattle.depot.specs.declared.worker.Worker.{Worker}
 use Rattle.depot.specs.Answers.{contents}
 use Rattle.depot.specs.Racks.{Racked, AreAll}
 use Rattle.depot.specs.Resting.{IsBare}
-use Rattle.depot.specs.Seats.{Site, IsCause, lent}
+use Rattle.depot.specs.Seats.{Site, IsCause, Reads, lent}
 
 abbrev pub hands_of : List View → List ℕ
 hands_of [] = []
@@ -69,6 +69,14 @@ abbrev pub PutsLoans : ℕ → List ℕ → Result (Unit {0}) Cause → Worker �
 PutsLoans tries xs (Ok _) w x w' x' = (i : ℕ) → bag (elements x') i + bag xs i ≡ bag (elements x) i
 PutsLoans tries xs (Err cause) w x w' x' = SameLoans x x' × IsCause tries cause (log_of w) (log_of w')
 
+-- No element is lost in a call: what went from the worker's hand to others, less what came into it from
+-- others, is what is lent besides. All else that was in its magazines is there, or at the depot.
+pub record KeepsAll (v : View) (x : Loans) (w : View) (x' : Loans) : Type 0 where
+  pub reads : Reads v w
+  pub passes : (i : ℕ) →
+      bag w.let_out i + bag v.taken_in i + bag (elements x) i
+      ≡ bag v.let_out i + bag w.taken_in i + bag (elements x') i
+
 -- the answer of a get, with the list that it gave
 abbrev pub lent_list : Result (Unit {0}) Cause → List ℕ → Result (List ℕ) Cause
 lent_list (Ok _) xs = Ok xs
@@ -91,3 +99,9 @@ GetsCount (Err cause) w w' = count_of w' ≡ count_of w
 abbrev pub PutsCount : List ℕ → Result (Unit {0}) Cause → Worker → Worker → Type 0
 PutsCount xs (Ok _) w w' = count_of w' ≡ (count_of w + length xs) % 2 ^ 64
 PutsCount xs (Err cause) w w' = count_of w' ≡ count_of w
+
+-- what a fill did, which put so many: each of those below is lent once less, and all else as before
+pub record FillsTo (n : ℕ) (w : Worker) (x : Loans) (w' : Worker) (x' : Loans) : Type 0 where
+  pub put : (i : ℕ) → i < n → bag (elements x') i + 1 ≡ bag (elements x) i
+  pub others : (i : ℕ) → n ≤ i → bag (elements x') i ≡ bag (elements x) i
+  pub count : count_of w' % 2 ^ 64 ≡ (count_of w + n) % 2 ^ 64

@@ -108,5 +108,7 @@ first_view shape = record {
   chain = None;
   heads = [];
   lost = 0;
+  let_out = [];
+  taken_in = [];
   resting = all_numbers;
 }

@@ -41,7 +41,8 @@ pub record Sound (m : Sat) : Type 0 where
 abbrev pub lent : Sat → ℕ → ℕ
 lent m i = bag m.0.hand i - bag (contents m.1) i
 
--- Between these two states of a seat it read some heads and lost some exchanges.
+-- Between these two states of a seat it read some heads and lost some exchanges. Nothing has passed from
+-- its hand to another seat's, or back.
 pub record Logs (v w : View) : Type 0 where
   pub more : List (Stack × ℕ)
   pub heads : w.heads ≡ v.heads ++ more
@@ -49,6 +50,25 @@ pub record Logs (v w : View) : Type 0 where
   pub population : w.population ≡ v.population
   pub rounds : w.rounds ≡ v.rounds
   pub resting : w.resting ≡ v.resting
+  pub let_out : w.let_out ≡ v.let_out
+  pub taken_in : w.taken_in ≡ v.taken_in
+
+-- the same but of what has passed to another seat, or from it
+abbrev pub quiet : View → View
+quiet v = record v { let_out = []; taken_in = [] }
+
+abbrev pub Reads : View → View → Type 0
+Reads v w = Logs (quiet v) (quiet w)
+
+-- These came into the seat's hand from another, and none went.
+pub record TakesIn (xs : List ℕ) (v w : View) : Type 0 where
+  pub let_out : w.let_out ≡ v.let_out
+  pub taken_in : w.taken_in ≡ v.taken_in ++ xs
+
+-- These went from the seat's hand to another, and none came.
+pub record LetsOut (xs : List ℕ) (v w : View) : Type 0 where
+  pub let_out : w.let_out ≡ v.let_out ++ xs
+  pub taken_in : w.taken_in ≡ v.taken_in
 
 -- the last head that was read is of this stack, and such
 pub record LastRead (v w : View) (k : Stack) (P : ℕ → Type 0) : Type 0 where

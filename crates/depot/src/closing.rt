@@ -122,6 +122,7 @@ impl Worker {
         ensures all { IfOk result (λ n. (n ≡ length (cached self.new)) × HasAll depot.now self.new) }
         ensures cause { IfErr result (λ cause.
             IsCause depot.now.tries cause (log_of self.old) (log_of self.new)) }
+        ensures logs { Logs (log_of self.old) (log_of self.new) }
         ensures count { count_of self.new ≡ count_of self.old }
     {
         self.rack.gather(depot)

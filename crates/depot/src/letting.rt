@@ -4,7 +4,7 @@ ghost use Rattle.std.specs.Prelude.{◌≡◌, ℕ, ◌+◌};
 ghost use Rattle.commons.specs.Bag.{bag};
 ghost use Rattle.depot.specs.Lending.{AreOf, AreOnce, IsSettled, elements};
 ghost use Rattle.depot.specs.Racks.{Racked};
-ghost use Rattle.depot.specs.Seats.{Logs, lent};
+ghost use Rattle.depot.specs.Seats.{LetsOut, Reads, TakesIn, lent};
 
 use crate::depot::Depot;
 use crate::loans::Loans;
@@ -21,7 +21,8 @@ impl Rack {
         ensures at_hand { self.new.at_hand ≡ self.old.at_hand }
         ensures lent { (i : ℕ) → lent self.new.seat.me i ≡ lent self.old.seat.me i + bag
             (elements loans.old) i }
-        ensures logs { Logs self.old.seat.me.0 self.new.seat.me.0 }
+        ensures reads { Reads self.old.seat.me.0 self.new.seat.me.0 }
+        ensures passes { TakesIn (elements loans.old) self.old.seat.me.0 self.new.seat.me.0 }
     {
         depot.join(&mut self.seat, loans.take());
     }
@@ -35,7 +36,9 @@ impl Rack {
         ensures of { AreOf depot.now loans.new }
         ensures once { AreOnce depot.now loans.new }
         ensures lent { (i : ℕ) → bag (elements loans.new) i ≡ lent self.old.seat.me i }
-        ensures logs { Logs self.old.seat.me.0 self.new.seat.me.0 }
+        ensures rows { self.new.seat.me.1 ≡ self.old.seat.me.1 }
+        ensures reads { Reads self.old.seat.me.0 self.new.seat.me.0 }
+        ensures passes { LetsOut (elements loans.new) self.old.seat.me.0 self.new.seat.me.0 }
     {
         depot.note(&mut self.seat);
         *loans = Loans::of(depot.part(&mut self.seat));

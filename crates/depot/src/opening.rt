@@ -1,13 +1,13 @@
 //! How a depot is made, and workers for it.
 
-ghost use Rattle.std.specs.Prelude.{◌≡◌, ◌↔◌, ◌⊎◌, ℕ, ◌+◌, ◌*◌, ◌<◌, ◌≤◌, ◌^◌, ◌++◌, [], true, false, None, IfOk, IfSome, replicate, take};
+ghost use Rattle.std.specs.Prelude.{◌≡◌, ◌↔◌, ◌⊎◌, ℕ, ◌+◌, ◌*◌, ◌<◌, ◌≤◌, ◌^◌, ◌++◌, [], true, false, None, IfOk, IfErr, IfSome, replicate, take};
 ghost use Rattle.commons.specs.Bag.{bag};
-ghost use Rattle.depot.specs.Lending.{AreOf, IsWorker, SameLoans, cached, elements};
+ghost use Rattle.depot.specs.Lending.{AreOf, FillsTo, IsWorker, KeepsAll, SameLoans, cached, count_of, elements, log_of};
 ghost use Rattle.std.specs.List.{range_with_len};
 ghost use Rattle.depot.specs.Opening.{zeros, opening_words, fair, rounds_for, magazines_for};
 ghost use Rattle.depot.specs.Resting.{IsBare};
 ghost use Rattle.depot.specs.Rule.{first_view};
-ghost use Rattle.depot.specs.Seats.{IsOf};
+ghost use Rattle.depot.specs.Seats.{IsCause, IsOf};
 
 use crate::cause::{Cause, Refusal};
 use crate::depot::Depot;
@@ -134,6 +134,7 @@ impl Depot {
         requires some_rounds { 0 < size.rounds }
         requires few_rounds { size.rounds ≤ 128 }
         ensures population { IfOk result (λ made. made.0.population ≡ population) }
+        ensures magazines { IfOk result (λ made. made.0.table.slots ≡ size.magazines) }
         ensures rounds { IfOk result (λ made. made.0.rounds ≡ size.rounds) }
         ensures places { IfOk result (λ made. made.0.places ≡ places) }
         ensures tries { IfOk result (λ made. made.0.tries ≡ tries) }
@@ -185,11 +186,13 @@ impl Depot {
         requires some_rounds { 0 < size.rounds }
         requires few_rounds { size.rounds ≤ 128 }
         ensures population { IfOk result (λ made. made.0.population ≡ population) }
+        ensures magazines { IfOk result (λ made. made.0.table.slots ≡ size.magazines) }
         ensures rounds { IfOk result (λ made. made.0.rounds ≡ size.rounds) }
         ensures places { IfOk result (λ made. made.0.places ≡ 0) }
         ensures tries { IfOk result (λ made. made.0.tries ≡ tries) }
         ensures loans { IfOk result (λ made. AreOf made.0 made.1) }
         ensures all { IfOk result (λ made. (i : ℕ) → i < population → bag (elements made.1) i ≡ 1) }
+        ensures none { IfOk result (λ made. (i : ℕ) → population ≤ i → bag (elements made.1) i ≡ 0) }
     {
         let (depot, seat) = Depot::make_seat(alloc, population, 0, size, tries)?;
         Ok((depot, Loans::of(seat)))
@@ -236,6 +239,7 @@ impl Depot {
         ensures same { SameLoans loans.old loans.new }
         ensures of { IfOk result (IsWorker self.now) }
         ensures empty { IfOk result (λ w. cached w ≡ []) }
+        ensures count { IfOk result (λ w. count_of w ≡ 0) }
     {
         let Ok(behind) = Rack::places(alloc, self) else {
             return Err(Refusal::Memory);
@@ -279,6 +283,12 @@ pub fn fill(
         bag (elements loans.new) i + 1 ≡ bag (elements loans.old) i) }
     ensures others { (i : ℕ) → population ≤ i →
         bag (elements loans.new) i ≡ bag (elements loans.old) i }
+    ensures filled { IfOk result (λ _. FillsTo population worker.old loans.old worker.new loans.new) }
+    ensures some { IfErr result (λ _. (n : ℕ) × (n < population) × FillsTo n worker.old loans.old
+        worker.new loans.new) }
+    ensures cause { IfErr result (λ cause. IsCause depot.now.tries cause (log_of worker.old) (log_of
+        worker.new)) }
+    ensures kept { KeepsAll (log_of worker.old) loans.old (log_of worker.new) loans.new }
 {
     let mut next = 0;
     while next < population {

@@ -84,6 +84,7 @@ impl Depot {
         requires few_rounds { size.rounds ≤ 128 }
         ensures population { IfOk result (λ made. made.0.population ≡ population) }
         ensures places { IfOk result (λ made. made.0.places ≡ population) }
+        ensures magazines { IfOk result (λ made. made.0.table.slots ≡ size.magazines) }
         ensures rounds { IfOk result (λ made. made.0.rounds ≡ size.rounds) }
         ensures tries { IfOk result (λ made. made.0.tries ≡ tries) }
         ensures loans { IfOk result (λ made. AreOf made.0 made.1) }

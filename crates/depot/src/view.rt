@@ -72,5 +72,9 @@ pub struct View {
     pub heads: LinkedList<(Stack, u64)>,
     /// How many exchanges it has lost.
     pub lost: u64,
+    /// What has left its hand for another seat.
+    pub let_out: LinkedList<u64>,
+    /// What has come into its hand from another seat.
+    pub taken_in: LinkedList<u64>,
     pub resting: Resting,
 }

@@ -1,9 +1,9 @@
 //! A worker at a depot, with its magazines.
 
-ghost use Rattle.std.specs.Prelude.{◌≡◌, ℕ, ◌≤◌, true, false, [], ◌∷◌, length, None, Ok, IfOk, IfErr, IfSome};
+ghost use Rattle.std.specs.Prelude.{◌≡◌, ℕ, ◌+◌, ◌≤◌, true, false, [], ◌∷◌, length, None, Ok, IfOk, IfErr, IfSome};
 ghost use Rattle.commons.specs.Bag.{bag};
-ghost use Rattle.depot.specs.Lending.{AreOf, AreOnce, IsWorker, GetsLoans, PutsLoans, GetsCount, PutsCount, cached, count_of, elements, lent_list, lent_one, log_of};
-ghost use Rattle.depot.specs.Seats.{IsCause};
+ghost use Rattle.depot.specs.Lending.{AreOf, AreOnce, IsWorker, GetsLoans, PutsLoans, KeepsAll, GetsCount, PutsCount, cached, count_of, elements, lent_list, lent_one, log_of};
+ghost use Rattle.depot.specs.Seats.{IsCause, Logs};
 
 use crate::cause::Cause;
 use crate::depot::Depot;
@@ -64,10 +64,13 @@ impl Worker {
         requires loans { AreOf depot.now loans.old }
         ensures of { IsWorker depot.now self.new }
         ensures loans { AreOf depot.now loans.new }
+        ensures kept { KeepsAll (log_of self.old) loans.old (log_of self.new) loans.new }
         ensures once { result ≡ true → AreOnce depot.now loans.new }
         ensures got { result ≡ true → GetsLoans depot.now.tries (Ok out.new) self.old loans.old
             self.new loans.new }
         ensures count { result ≡ true → GetsCount (Ok out.new) self.old self.new }
+        ensures less { result ≡ true → length (cached self.new) + length out.new ≡ length (cached
+            self.old) }
         ensures not { result ≡ false → (self.new ≡ self.old) × (loans.new ≡ loans.old)
             × (out.new ≡ out.old) }
     {
@@ -92,10 +95,13 @@ impl Worker {
         requires lent { (i : ℕ) → bag list.now i ≤ bag (elements loans.old) i }
         ensures of { IsWorker depot.now self.new }
         ensures loans { AreOf depot.now loans.new }
+        ensures kept { KeepsAll (log_of self.old) loans.old (log_of self.new) loans.new }
         ensures once { result ≡ true → AreOnce depot.now loans.new }
         ensures put { result ≡ true → PutsLoans depot.now.tries list.now (Ok tt) self.old loans.old
             self.new loans.new }
         ensures count { result ≡ true → PutsCount list.now (Ok tt) self.old self.new }
+        ensures more { result ≡ true → length (cached self.new) ≡ length (cached self.old) + length
+            list.now }
         ensures not { result ≡ false → (self.new ≡ self.old) × (loans.new ≡ loans.old) }
     {
         let n = list.len();
@@ -117,10 +123,12 @@ impl Worker {
         requires loans { AreOf depot.now loans.old }
         ensures of { IsWorker depot.now self.new }
         ensures loans { AreOf depot.now loans.new }
+        ensures kept { KeepsAll (log_of self.old) loans.old (log_of self.new) loans.new }
         ensures once { IfSome result (λ _. AreOnce depot.now loans.new) }
         ensures got { IfSome result (λ x. GetsLoans depot.now.tries (Ok (x ∷ [])) self.old loans.old
             self.new loans.new) }
         ensures count { IfSome result (λ x. GetsCount (Ok (x ∷ [])) self.old self.new) }
+        ensures less { IfSome result (λ _. length (cached self.new) + 1 ≡ length (cached self.old)) }
         ensures none { result ≡ None → (self.new ≡ self.old) × (loans.new ≡ loans.old) }
     {
         if self.rack.len(depot) == 0 {
@@ -142,10 +150,12 @@ impl Worker {
         requires lent { (i : ℕ) → bag (value ∷ []) i ≤ bag (elements loans.old) i }
         ensures of { IsWorker depot.now self.new }
         ensures loans { AreOf depot.now loans.new }
+        ensures kept { KeepsAll (log_of self.old) loans.old (log_of self.new) loans.new }
         ensures once { result ≡ true → AreOnce depot.now loans.new }
         ensures put { result ≡ true → PutsLoans depot.now.tries (value ∷ []) (Ok tt) self.old
             loans.old self.new loans.new }
         ensures count { result ≡ true → PutsCount (value ∷ []) (Ok tt) self.old self.new }
+        ensures more { result ≡ true → length (cached self.new) ≡ length (cached self.old) + 1 }
         ensures not { result ≡ false → (self.new ≡ self.old) × (loans.new ≡ loans.old) }
     {
         if self.rack.len(depot) >= self.rack.at_hand {
@@ -165,6 +175,7 @@ impl Worker {
         requires loans { AreOf depot.now loans.old }
         ensures of { IsWorker depot.now self.new }
         ensures loans { AreOf depot.now loans.new }
+        ensures kept { KeepsAll (log_of self.old) loans.old (log_of self.new) loans.new }
         ensures once { AreOnce depot.now loans.new }
         ensures got { GetsLoans depot.now.tries (lent_list result out.new) self.old loans.old
             self.new loans.new }
@@ -197,6 +208,7 @@ impl Worker {
         requires loans { AreOf depot.now loans.old }
         ensures of { IsWorker depot.now self.new }
         ensures loans { AreOf depot.now loans.new }
+        ensures kept { KeepsAll (log_of self.old) loans.old (log_of self.new) loans.new }
         ensures once { AreOnce depot.now loans.new }
         ensures got { GetsLoans depot.now.tries (lent_list result out.new) self.old loans.old
             self.new loans.new }
@@ -216,6 +228,7 @@ impl Worker {
         requires lent { (i : ℕ) → bag list.now i ≤ bag (elements loans.old) i }
         ensures of { IsWorker depot.now self.new }
         ensures loans { AreOf depot.now loans.new }
+        ensures kept { KeepsAll (log_of self.old) loans.old (log_of self.new) loans.new }
         ensures once { AreOnce depot.now loans.new }
         ensures put { PutsLoans depot.now.tries list.now result self.old loans.old self.new
             loans.new }
@@ -248,6 +261,7 @@ impl Worker {
         requires lent { (i : ℕ) → bag list.now i ≤ bag (elements loans.old) i }
         ensures of { IsWorker depot.now self.new }
         ensures loans { AreOf depot.now loans.new }
+        ensures kept { KeepsAll (log_of self.old) loans.old (log_of self.new) loans.new }
         ensures once { AreOnce depot.now loans.new }
         ensures put { PutsLoans depot.now.tries list.now result self.old loans.old self.new
             loans.new }
@@ -266,6 +280,7 @@ impl Worker {
         requires loans { AreOf depot.now loans.old }
         ensures of { IsWorker depot.now self.new }
         ensures loans { AreOf depot.now loans.new }
+        ensures kept { KeepsAll (log_of self.old) loans.old (log_of self.new) loans.new }
         ensures once { AreOnce depot.now loans.new }
         ensures got { GetsLoans depot.now.tries (lent_one result) self.old loans.old self.new
             loans.new }
@@ -287,6 +302,7 @@ impl Worker {
         requires loans { AreOf depot.now loans.old }
         ensures of { IsWorker depot.now self.new }
         ensures loans { AreOf depot.now loans.new }
+        ensures kept { KeepsAll (log_of self.old) loans.old (log_of self.new) loans.new }
         ensures once { AreOnce depot.now loans.new }
         ensures got { GetsLoans depot.now.tries (lent_one result) self.old loans.old self.new
             loans.new }
@@ -306,6 +322,7 @@ impl Worker {
         requires lent { (i : ℕ) → bag (value ∷ []) i ≤ bag (elements loans.old) i }
         ensures of { IsWorker depot.now self.new }
         ensures loans { AreOf depot.now loans.new }
+        ensures kept { KeepsAll (log_of self.old) loans.old (log_of self.new) loans.new }
         ensures once { AreOnce depot.now loans.new }
         ensures put { PutsLoans depot.now.tries (value ∷ []) result self.old loans.old self.new
             loans.new }
@@ -324,6 +341,7 @@ impl Worker {
         requires lent { (i : ℕ) → bag (value ∷ []) i ≤ bag (elements loans.old) i }
         ensures of { IsWorker depot.now self.new }
         ensures loans { AreOf depot.now loans.new }
+        ensures kept { KeepsAll (log_of self.old) loans.old (log_of self.new) loans.new }
         ensures once { AreOnce depot.now loans.new }
         ensures put { PutsLoans depot.now.tries (value ∷ []) result self.old loans.old self.new
             loans.new }
@@ -346,6 +364,7 @@ impl Worker {
         ensures empty { IfOk result (λ _. length (cached self.new) ≡ 0) }
         ensures cause { IfErr result (λ cause. IsCause depot.now.tries cause (log_of self.old)
             (log_of self.new)) }
+        ensures logs { Logs (log_of self.old) (log_of self.new) }
         ensures count { count_of self.new ≡ count_of self.old }
     {
         self.rack.flush(depot)
