@@ -13,8 +13,8 @@ use Rattle.depot.proofs.Bags.{one-other}
 use Rattle.depot.proofs.Looks.{times-same, times-other}
 use Rattle.guard.specs.declared.refusal.NotPut.{NotPut}
 use Rattle.guard.specs.declared.worker.GuardWorker.{GuardWorker}
-use Rattle.guard.specs.Guards.{view_of, Gets, Puts, PutsIt, PutsSome, PutsAll, Still, Later, IsNotPut, StopsAt}
-use Rattle.guard.proofs.Since.{later-none, puts-still}
+use Rattle.guard.specs.Guards.{view_of, resting_of, Gets, Puts, PutsIt, PutsSome, PutsAll, PutsBack, Still, Later, IsNotPut, StopsAt, WasRefused}
+use Rattle.guard.proofs.Since.{later-none, later-on, puts-still}
 
 pub gets-none-yet : (a : Resting) → Gets [] a a
 gets-none-yet a = record {
@@ -31,6 +31,14 @@ gets-more xs ys e a b c is x y = subst (λ (l : List ℕ). Gets l a c) (sym is) 
   puts = y.puts ∙ x.puts;
   strays = y.strays ∙ x.strays;
 })
+
+pub gets-still : (xs : List ℕ) (a b c : Resting) → Gets xs a b → Still b c → Gets xs a c
+gets-still xs a b c x y = record {
+  gets = λ i. ap (λ (l : List ℕ). bag l i) y.gets ∙ x.gets i;
+  marks = λ i. y.marks i ∙ x.marks i;
+  puts = y.puts ∙ x.puts;
+  strays = y.strays ∙ x.strays;
+}
 
 puts-none : (a : Resting) → Puts [] [] a a
 puts-none a = record {
@@ -80,6 +88,56 @@ some-more xs us e (Err why) a b c is x y n = subst (λ (l : List ℕ). PutsSome 
   zs = x.zs;
   puts = puts-still x.ys x.zs a b c x.puts n;
   among = λ i. let p = x.among i in let u = bag-append xs (e ∷ []) i in omega arith;
+})
+
+-- what was refused before a later state
+refused-then : (g : Site) (u v w : View) (i : ℕ) → (why : NotPut) × WasRefused g u v i why → Later v w →
+    (why : NotPut) × WasRefused g u w i why
+refused-then g u v w i r l = (r.0, (r.1.0, r.1.1, r.1.2, r.1.3, later-on (view_of r.1.1) v w r.1.4 l))
+
+pub back-none : (g : Site) (a : GuardWorker) → PutsBack g [] a a
+back-none g a = record {
+  ys = [];
+  zs = [];
+  rs = [];
+  puts = puts-none (resting_of a);
+  are = λ i. let n = bag-nil i in omega arith;
+  not = λ i some. let n = bag-nil i in absurd (omega arith);
+}
+
+pub back-more : (g : Site) (xs us : List ℕ) (e : ℕ) (r : Result (Unit {0}) NotPut) (a b c : GuardWorker) → us ≡ xs ++ e ∷ [] →
+    PutsBack g xs a b → Later (view_of a) (view_of b) → Later (view_of b) (view_of c) →
+    IfOk r (λ _. PutsIt e (resting_of b) (resting_of c)) → IfErr r (λ _. Still (resting_of b) (resting_of c)) →
+    IfErr r (λ why. IsNotPut g why e b c) → PutsBack g us a c
+back-more g xs us e (Ok met) a b c is x before later y n not = subst (λ (l : List ℕ). PutsBack g l a c) (sym is) (record {
+  ys = x.ys ++ replicate y.0 e;
+  zs = x.zs ++ replicate (1 - y.0) e;
+  rs = x.rs;
+  puts = puts-on x.ys x.zs (replicate y.0 e) (replicate (1 - y.0) e) (resting_of a) (resting_of b) (resting_of c) x.puts y.2;
+  are = λ i.
+      let p = x.are i in let q = times-both y.0 e i y.1 in
+      let s = bag-append x.ys (replicate y.0 e) i in let t = bag-append x.zs (replicate (1 - y.0) e) i in
+      let u = bag-append xs (e ∷ []) i in let v = bag-single e i in omega arith;
+  not = λ i some. refused-then g (view_of a) (view_of b) (view_of c) i (x.not i some) later;
+})
+back-more g xs us e (Err why) a b c is x before later y n not = subst (λ (l : List ℕ). PutsBack g l a c) (sym is) (record {
+  ys = x.ys;
+  zs = x.zs;
+  rs = x.rs ++ e ∷ [];
+  puts = puts-still x.ys x.zs (resting_of a) (resting_of b) (resting_of c) x.puts n;
+  are = λ i.
+      let p = x.are i in let s = bag-append x.rs (e ∷ []) i in let u = bag-append xs (e ∷ []) i in omega arith;
+  not = λ i some.
+      ⊎_elim
+      (λ (same : i ≡ e).
+      subst (λ (j : ℕ). (was : NotPut) × WasRefused g (view_of a) (view_of c) j was) (sym same)
+      (why, (b, c, before, not, later-none (view_of c))))
+      (λ (other : i ≢ e).
+      refused-then g (view_of a) (view_of b) (view_of c) i
+      (x.not i
+      (let s = bag-append x.rs (e ∷ []) i in let u = bag-single e i in let o = one-other i e other in omega arith))
+      later)
+      (cases_eq i e);
 })
 
 -- all of a list were put, as far as it was looked at

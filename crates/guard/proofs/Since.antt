@@ -15,7 +15,7 @@ use Rattle.guard.specs.declared.refusal.NotPut.{NotPut}
 use Rattle.guard.specs.declared.refusal.NotPut.TheVariants.{Stranger, Home, Kept, Lost, Full}
 use Rattle.guard.specs.declared.worker.GuardWorker.{GuardWorker}
 use Rattle.guard.specs.Keeping.{Keep}
-use Rattle.guard.specs.Guards.{view_of, resting_of, most_told, Later, Tells, Since, LastFound, RefusedIn, IsNotPut, Still, Gets, Puts, PutsIt}
+use Rattle.guard.specs.Guards.{view_of, resting_of, most_told, Later, SameSeat, Tells, Since, LastFound, RefusedIn, IsNotPut, Still, Gets, Puts, PutsIt}
 
 pub later-none : (v : View) → Later v v
 later-none v = record {
@@ -24,6 +24,7 @@ later-none v = record {
   looks = [];
   found = sym (append-nil v.resting.found);
   lost = omega arith;
+  same = record { from = refl; to = refl; let_out = refl; taken_in = refl };
 }
 
 pub later-logs : (v w : View) → Logs v w → Later v w
@@ -33,6 +34,12 @@ later-logs v w l = record {
   looks = [];
   found = ap (λ (r : Resting). r.found) l.resting ∙ sym (append-nil v.resting.found);
   lost = l.lost;
+  same = record {
+    from = ap (λ (r : Resting). r.from) l.resting;
+    to = ap (λ (r : Resting). r.to) l.resting;
+    let_out = l.let_out;
+    taken_in = l.taken_in;
+  };
 }
 
 pub later-on : (u v w : View) → Later u v → Later v w → Later u w
@@ -42,16 +49,23 @@ later-on u v w a b = record {
   looks = a.looks ++ b.looks;
   found = b.found ∙ ap (λ xs. xs ++ b.looks) a.found ∙ append_assoc u.resting.found a.looks b.looks;
   lost = let x = a.lost in let y = b.lost in omega arith;
+  same = record {
+    from = b.same.from ∙ a.same.from;
+    to = b.same.to ∙ a.same.to;
+    let_out = b.same.let_out ∙ a.same.let_out;
+    taken_in = b.same.taken_in ∙ a.same.taken_in;
+  };
 }
 
 -- a step that read no head and found nothing
-pub later-quiet : (v w : View) → w.heads ≡ v.heads → w.resting.found ≡ v.resting.found → v.lost ≤ w.lost → Later v w
-later-quiet v w heads found lost = record {
+pub later-quiet : (v w : View) → w.heads ≡ v.heads → w.resting.found ≡ v.resting.found → v.lost ≤ w.lost → SameSeat v w → Later v w
+later-quiet v w heads found lost same = record {
   more = [];
   heads = heads ∙ sym (append-nil v.heads);
   looks = [];
   found = found ∙ sym (append-nil v.resting.found);
   lost = lost;
+  same = same;
 }
 
 -- a look at a place
@@ -63,54 +77,88 @@ after-put-found : (b : Bool) (r : Resting) (e : ℕ) → (after_put b r e).found
 after-put-found true r e = refl
 after-put-found false r e = refl
 
+after-get-from : (b : Bool) (r : Resting) (e : ℕ) → (after_get b r e).from ≡ r.from
+after-get-from true r e = refl
+after-get-from false r e = refl
+
+after-get-to : (b : Bool) (r : Resting) (e : ℕ) → (after_get b r e).to ≡ r.to
+after-get-to true r e = refl
+after-get-to false r e = refl
+
+after-put-from : (b : Bool) (r : Resting) (e : ℕ) → (after_put b r e).from ≡ r.from
+after-put-from true r e = refl
+after-put-from false r e = refl
+
+after-put-to : (b : Bool) (r : Resting) (e : ℕ) → (after_put b r e).to ≡ r.to
+after-put-to true r e = refl
+after-put-to false r e = refl
+
 later-looked : (v : View) (ms : List (ℕ × List ℕ)) (n : Sat) (x : Resting) (e found : ℕ) →
-    n ≡ (record v { resting = x }, ms) → x.found ≡ v.resting.found ++ (e, found) ∷ [] → Later v n.0
-later-looked v ms n x e found is seen =
+    n ≡ (record v { resting = x }, ms) → x.found ≡ v.resting.found ++ (e, found) ∷ [] →
+    x.from ≡ v.resting.from → x.to ≡ v.resting.to → Later v n.0
+later-looked v ms n x e found is seen from to =
     subst (λ (m : Sat). Later v m.0) (sym is) (record {
       more = [];
       heads = sym (append-nil v.heads);
       looks = (e, found) ∷ [];
       found = seen;
       lost = omega arith;
+      same = record { from = from; to = to; let_out = refl; taken_in = refl };
     })
 
 pub later-get : (v : View) (ms : List (ℕ × List ℕ)) (n : Sat) (e found : ℕ) →
     n ≡ (record v { resting = look_get v.resting e found }, ms) → Later v n.0
 later-get v ms n e found is =
     later-looked v ms n (look_get v.resting e found) e found is (after-get-found _ (finds v.resting e found) e)
+    (after-get-from _ (finds v.resting e found) e) (after-get-to _ (finds v.resting e found) e)
 
 pub later-put : (v : View) (ms : List (ℕ × List ℕ)) (n : Sat) (e found : ℕ) →
     n ≡ (record v { resting = look_put v.resting e found }, ms) → Later v n.0
 later-put v ms n e found is =
     later-looked v ms n (look_put v.resting e found) e found is (after-put-found _ (finds v.resting e found) e)
+    (after-put-from _ (finds v.resting e found) e) (after-put-to _ (finds v.resting e found) e)
 
 -- other steps at a place
 pub later-step : (v w : View) (ms : List (ℕ × List ℕ)) (n : Sat) → n ≡ (w, ms) → w.heads ≡ v.heads →
-    w.resting.found ≡ v.resting.found → v.lost ≤ w.lost → Later v n.0
-later-step v w ms n is heads found lost =
-    subst (λ (m : Sat). Later v m.0) (sym is) (later-quiet v w heads found lost)
+    w.resting.found ≡ v.resting.found → v.lost ≤ w.lost → SameSeat v w → Later v n.0
+later-step v w ms n is heads found lost same =
+    subst (λ (m : Sat). Later v m.0) (sym is) (later-quiet v w heads found lost same)
 
 pub later-lost : (v : View) (ms : List (ℕ × List ℕ)) (n : Sat) → n ≡ (losing v, ms) → Later v n.0
-later-lost v ms n is = later-step v (losing v) ms n is refl refl (omega arith)
+later-lost v ms n is =
+    later-step v (losing v) ms n is refl refl (omega arith)
+    (record { from = refl; to = refl; let_out = refl; taken_in = refl })
 
 pub later-forget : (v : View) (ms : List (ℕ × List ℕ)) (n : Sat) (e : ℕ) → n ≡ (forgetting v e, ms) → Later v n.0
-later-forget v ms n e is = later-step v (forgetting v e) ms n is refl refl (omega arith)
+later-forget v ms n e is =
+    later-step v (forgetting v e) ms n is refl refl (omega arith)
+    (record { from = refl; to = refl; let_out = refl; taken_in = refl })
 
 pub later-back : (v : View) (ms : List (ℕ × List ℕ)) (n : Sat) (e : ℕ) → n ≡ (taking_back v e, ms) → Later v n.0
-later-back v ms n e is = later-step v (taking_back v e) ms n is refl refl (omega arith)
+later-back v ms n e is =
+    later-step v (taking_back v e) ms n is refl refl (omega arith)
+    (record { from = refl; to = refl; let_out = refl; taken_in = refl })
 
 pub later-kept : (v : View) (ms : List (ℕ × List ℕ)) (n : Sat) (e : ℕ) → n ≡ (resting_in v e, ms) → Later v n.0
-later-kept v ms n e is = later-step v (resting_in v e) ms n is refl refl (omega arith)
+later-kept v ms n e is =
+    later-step v (resting_in v e) ms n is refl refl (omega arith)
+    (record { from = refl; to = refl; let_out = refl; taken_in = refl })
 
 pub later-out : (v : View) (ms : List (ℕ × List ℕ)) (n : Sat) (e : ℕ) → n ≡ (resting_out v e, ms) → Later v n.0
-later-out v ms n e is = later-step v (resting_out v e) ms n is refl refl (omega arith)
+later-out v ms n e is =
+    later-step v (resting_out v e) ms n is refl refl (omega arith)
+    (record { from = refl; to = refl; let_out = refl; taken_in = refl })
 
 pub later-noted : (v : View) (ms : List (ℕ × List ℕ)) (n : Sat) → n ≡ (noting v ms, ms) → Later v n.0
-later-noted v ms n is = later-step v (noting v ms) ms n is refl refl (omega arith)
+later-noted v ms n is =
+    later-step v (noting v ms) ms n is refl refl (omega arith)
+    (record { from = refl; to = refl; let_out = refl; taken_in = refl })
 
 pub later-claimed : (v : View) (ms : List (ℕ × List ℕ)) (n : Sat) (e : ℕ) →
     (was : ℕ) × (was ≤ 1) × (n ≡ (claiming v e was, ms)) → Later v n.0
-later-claimed v ms n e c = later-step v (claiming v e c.0) ms n c.2 refl refl (omega arith)
+later-claimed v ms n e c =
+    later-step v (claiming v e c.0) ms n c.2 refl refl (omega arith)
+    (record { from = refl; to = refl; let_out = refl; taken_in = refl })
 
 pub claimed-stale : (v : View) (ms : List (ℕ × List ℕ)) (n : Sat) (e : ℕ) →
     (was : ℕ) × (was ≤ 1) × (n ≡ (claiming v e was, ms)) → n.0.resting.stale ≡ v.resting.stale

@@ -87,6 +87,13 @@ pub record LastFound (a b : Resting) (i found : ℕ) : Type 0 where
   pub more : List (ℕ × ℕ)
   pub is : b.found ≡ a.found ++ (more ++ (i, found) ∷ [])
 
+-- the seat has the same numbers, and nothing has passed from its hand to another seat's, or back
+pub record SameSeat (v w : View) : Type 0 where
+  pub from : w.resting.from ≡ v.resting.from
+  pub to : w.resting.to ≡ v.resting.to
+  pub let_out : w.let_out ≡ v.let_out
+  pub taken_in : w.taken_in ≡ v.taken_in
+
 -- a later state of a seat, which has read some heads and places
 pub record Later (v w : View) : Type 0 where
   pub more : List (Stack × ℕ)
@@ -94,6 +101,7 @@ pub record Later (v w : View) : Type 0 where
   pub looks : List (ℕ × ℕ)
   pub found : w.resting.found ≡ v.resting.found ++ looks
   pub lost : v.lost ≤ w.lost
+  pub same : SameSeat v w
 
 -- how many numbers of stale entries a worker has in store at most, until it is asked for them
 abbrev pub most_told : ℕ
@@ -164,3 +172,21 @@ pub record GetsNone (a b : Resting) : Type 0 where
   pub between : Resting
   pub gets : Gets xs a between
   pub back : PutsSome xs between b
+
+-- Of these the first were put that were out, and the second that were kept by other workers. Each of the
+-- third was refused, for a cause that was found then.
+pub record PutsBack (g : Site) (xs : List ℕ) (a b : GuardWorker) : Type 0 where
+  pub ys : List ℕ
+  pub zs : List ℕ
+  pub rs : List ℕ
+  pub puts : Puts ys zs (resting_of a) (resting_of b)
+  pub are : (i : ℕ) → bag ys i + bag zs i + bag rs i ≡ bag xs i
+  pub not : (i : ℕ) → 0 < bag rs i → (why : NotPut) × WasRefused g (view_of a) (view_of b) i why
+
+-- A refused get: each element that it got before is put again, or its put was refused.
+pub record GivesBack (g : Site) (a b : GuardWorker) : Type 0 where
+  pub xs : List ℕ
+  pub between : GuardWorker
+  pub gets : Gets xs (resting_of a) (resting_of between)
+  pub later : Later (view_of a) (view_of between)
+  pub back : PutsBack g xs between b

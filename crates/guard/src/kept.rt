@@ -1,6 +1,6 @@
 //! The list of the elements that a worker keeps.
 
-ghost use Rattle.std.specs.Prelude.{◌≡◌, ◌↔◌, ◌<◌, [], true, length, IfOk, MatchOption};
+ghost use Rattle.std.specs.Prelude.{◌≡◌, ◌↔◌, ◌+◌, ◌<◌, [], true, length, IfOk, MatchOption};
 ghost use Rattle.guard.specs.Keeping.{Takes};
 
 use std::alloc::{AllocError, Global};
@@ -49,6 +49,7 @@ impl Kept {
     /// wait, and one.
     pub fn new(alloc: Global, cache: u16, waiting: u32) -> Result<Kept, AllocError>
         ensures none { IfOk result (λ k. k.items ≡ []) }
+        ensures most { IfOk result (λ k. k.most ≡ cache + waiting + 1) }
     {
         let (cache, waiting) = (cache as usize, waiting as usize);
         let ready = Vec::with_capacity(alloc, cache + 1)?;

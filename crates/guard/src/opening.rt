@@ -75,6 +75,7 @@ pub fn make_worker(
     ensures of { IfOk result (IsGuard depot.now) }
     ensures count { IfOk result (λ w. count_of w ≡ 0) }
     ensures empty { IfOk result (λ w. kept_by w ≡ 0) }
+    ensures room { IfOk result (λ w. w.kept.most ≡ keeping.cache + keeping.waiting + 1) }
 {
     let Ok(marks) = Marks::new(alloc, depot.places() as usize) else {
         return Err(Refusal::Memory);
@@ -115,6 +116,7 @@ pub fn make_guarded(
     requires few_rounds { size.rounds ≤ 128 }
     ensures guarded { IfOk result (λ made. IsGuarded made.0) }
     ensures population { IfOk result (λ made. made.0.population ≡ population) }
+    ensures magazines { IfOk result (λ made. made.0.table.slots ≡ size.magazines) }
     ensures rounds { IfOk result (λ made. made.0.rounds ≡ size.rounds) }
     ensures tries { IfOk result (λ made. made.0.tries ≡ tries) }
     ensures of { IfOk result (λ made. IsGuard made.0 made.1) }

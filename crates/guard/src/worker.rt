@@ -5,7 +5,7 @@ ghost use Rattle.commons.specs.Bag.{bag};
 ghost use Rattle.depot.specs.Resting.{rest_in};
 ghost use Rattle.depot.specs.Seats.{Site};
 ghost use Rattle.guard.specs.Between.{Lacks, Holds};
-ghost use Rattle.guard.specs.Guards.{IsGuard, Gets, GetsNone, PutsAll, PutsIt, PutsSome, Still, Since, StopsAt, RefusedIn, IsNotPut, count_of, kept_by, most_told, resting_of, view_of};
+ghost use Rattle.guard.specs.Guards.{IsGuard, Gets, GetsNone, GivesBack, PutsAll, PutsBack, PutsIt, PutsSome, Still, Since, StopsAt, RefusedIn, IsNotPut, count_of, kept_by, most_told, resting_of, view_of};
 ghost use Rattle.guard.specs.declared.refusal.NotPut.TheVariants.{Lost};
 
 use crate::kept::Kept;
@@ -523,6 +523,7 @@ impl GuardWorker {
         requires of { IsGuard depot.now self.old }
         ensures of { IsGuard depot.now self.new }
         ensures puts { PutsSome list.now (resting_of self.old) (resting_of self.new) }
+        ensures back { PutsBack depot.now list.now self.old self.new }
         ensures since { Since self.old self.new }
     {
         for k in 0..list.len() {
@@ -533,14 +534,16 @@ impl GuardWorker {
     /// Gets as many elements as `out` has places: all of them, or none. Each is out then, until
     /// somebody puts it.
     ///
-    /// Refused as `get_one` is. What it had got by then is put again, but for what others put in
-    /// the meantime; nothing is said of `out`.
+    /// Refused as `get_one` is. What it had got by then is put again, as far as it is out still and
+    /// there is room: each of it is put, or its put was refused as `put_one` is. Nothing is said of
+    /// `out`.
     #[inline(always)]
     pub fn get(&mut self, depot: &Depot, out: &mut [u32]) -> Result<(), Cause>
         requires of { IsGuard depot.now self.old }
         ensures of { IsGuard depot.now self.new }
         ensures got { IfOk result (λ _. Gets out.new (resting_of self.old) (resting_of self.new)) }
         ensures none { IfErr result (λ _. GetsNone (resting_of self.old) (resting_of self.new)) }
+        ensures back { IfErr result (λ _. GivesBack depot.now self.old self.new) }
         ensures cause { IfErr result (λ cause. RefusedIn depot.now.tries cause (view_of self.old)
             (view_of self.new)) }
         ensures since { Since self.old self.new }

@@ -22,6 +22,9 @@ loop-preserved c =
 pub returns-in-Err-clause-since : goal.returns-in-Err-clause-since
 returns-in-Err-clause-since c = since-on _ _ _ c.loop.invariant.2 c.give_first.ensures.since
 
+pub returns-in-Err-clause-cause : goal.returns-in-Err-clause-cause
+returns-in-Err-clause-cause c = refused-on _ _ _ _ _ c.loop.invariant.2.later c.in-Err.ensures.cause
+
 pub returns-in-Err-flush-clause-cause : goal.returns-in-Err-flush-clause-cause
 returns-in-Err-flush-clause-cause c =
     refused-on _ _ _ _ _ c.loop.invariant.2.later (refused-at _ _ _ _ c.in-Err-flush.ensures.cause)

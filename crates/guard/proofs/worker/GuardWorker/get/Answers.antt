@@ -1,7 +1,7 @@
 use Rattle.std.proofs.Common.{◌∙◌, refl, arith}
 use Rattle.std.proofs.lemmas.List.{take_more_set, length-set}
-use Rattle.guard.proofs.Bulk.{gets-none-yet, gets-more}
-use Rattle.guard.proofs.Since.{since-none, since-on, refused-on, refused-by}
+use Rattle.guard.proofs.Bulk.{gets-none-yet, gets-more, gets-still}
+use Rattle.guard.proofs.Since.{since-none, since-on, later-on, refused-on, refused-by}
 use Rattle.guard.proofs.worker.GuardWorker.get.Goals as goal
 
 pub loop-k-init : goal.loop-k-init
@@ -28,3 +28,12 @@ returns-in-Err-clause-cause c =
 pub returns-in-Err-clause-since : goal.returns-in-Err-clause-since
 returns-in-Err-clause-since c =
     since-on _ _ _ c.loop-k.invariant.2 (since-on _ _ _ c.get_one.ensures.since c.put_back.ensures.since)
+
+pub returns-in-Err-clause-back : goal.returns-in-Err-clause-back
+returns-in-Err-clause-back c = record {
+  xs = _;
+  between = c.get_one.new.self;
+  gets = gets-still _ _ _ _ c.loop-k.invariant.1 c.in-Err.ensures.still;
+  later = later-on _ _ _ c.loop-k.invariant.2.later c.get_one.ensures.since.later;
+  back = c.put_back.ensures.back;
+}
