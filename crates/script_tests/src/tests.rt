@@ -11,14 +11,12 @@ use script::{replay, run_replay, run_replay_json, statement_json, statement_text
 use script_rows::parts::written;
 use script_rows::{built, caches, desks, packets, pools, sharing, twins as foreign};
 use script_text::parse;
-use share_book::TwinAct;
 use statement_text::pool_text;
 use std::alloc::Global;
 use std::fmt::Debug;
 use std::process::Abort;
 use std::test::Fail;
 
-mod acts;
 mod building;
 mod grounds;
 mod handing;
@@ -33,13 +31,11 @@ mod reasons;
 mod replies;
 mod settling;
 mod shown;
-mod sites;
 mod statements;
 mod step_readings;
 mod step_texts;
 mod texts;
 mod threads;
-mod twin_steps;
 mod twins;
 
 use building::placed;
@@ -72,21 +68,6 @@ type ReadRow = (
     Option<Limits>,
     &'static str,
 );
-
-/// A name, a pool's limits, those of its second pool, and what is done with them.
-type PoolRow = (&'static str, Limits, Option<Limits>, &'static [Step]);
-
-/// What is done with pools.
-enum Step {
-    /// A worker's act has this reply, as its `Debug` shows it.
-    Act(u32, TwinAct, &'static str),
-    /// A worker makes this many packets at once.
-    Bulk(u32, usize),
-    /// Each of these workers is refused so for each of these acts.
-    Refused(&'static [u32], &'static [TwinAct], Refusal),
-    /// The statement of the pools has this text.
-    Statement(&'static str),
-}
 
 /// The line of a reply, the number of the line, and the reply.
 type ReplyRow = (&'static str, u32, Reply);
