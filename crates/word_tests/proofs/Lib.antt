@@ -1,2 +1,3 @@
+mod Carrying
 mod Cutting
 mod Staying

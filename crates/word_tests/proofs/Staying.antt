@@ -10,7 +10,7 @@ use Rattle.mbuf.proofs.OwnLemmas.{own_new}
 use Rattle.stack_lf.specs.Sides.{side_of}
 use Rattle.stack_lf.specs.Tries.{DidOnWords}
 use Rattle.stack_lf.specs.declared.words.WordCommons.{WordCommons}
-use Rattle.stack_tests.specs.Idle.{Stays}
+use Rattle.word_tests.specs.Idle.{Stays}
 use Rattle.word_tests.specs.Ready.{OwnBySeat}
 
 -- each call leaves table, limits and slots as they are, so any number of calls does

@@ -1,1 +1,3 @@
+pub mod Carrying
+pub mod Idle
 pub mod Ready

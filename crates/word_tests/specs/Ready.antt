@@ -4,7 +4,7 @@ use Rattle.ground.specs.Seats.{Grounded, Seated}
 use Rattle.mbuf.specs.Members.{Member}
 use Rattle.mbuf.specs.Own.{Own}
 use Rattle.stack_lf.specs.Sides.{side_of}
-use Rattle.stack_tests.specs.Idle.{IsIdle}
+use Rattle.word_tests.specs.Idle.{IsIdle}
 
 -- the packets are the worker's own, by its seat
 abbrev pub OwnBySeat : Member → Seated → Type 0

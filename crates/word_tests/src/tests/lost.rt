@@ -2,7 +2,7 @@
 
 ghost use Rattle.std.specs.Prelude.{◌<◌, ◌≤◌, length};
 ghost use Rattle.ground.specs.Seats.{IsOf};
-ghost use Rattle.stack_tests.specs.Idle.{IsIdle, Stays};
+ghost use Rattle.word_tests.specs.Idle.{IsIdle, Stays};
 
 use super::players::FreeSeat;
 use super::{DEFAULTS, same};

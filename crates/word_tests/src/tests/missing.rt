@@ -1,7 +1,7 @@
 //! The end of a pool of four workers, one of whom hands in no share.
 
 ghost use Rattle.std.specs.Prelude.{◌≡◌, [], IfOk};
-ghost use Rattle.stack_tests.specs.Idle.{IsIdle};
+ghost use Rattle.word_tests.specs.Idle.{IsIdle};
 
 use super::places::assert_each_once;
 use super::players::{FreeSeat, Player, Retired};

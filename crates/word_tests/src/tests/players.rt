@@ -2,7 +2,7 @@
 
 ghost use Rattle.std.specs.Prelude.{◌≡◌, [], IfOk};
 ghost use Rattle.ground.specs.Own.{AtRest};
-ghost use Rattle.stack_tests.specs.Idle.{IsIdle, Stays};
+ghost use Rattle.word_tests.specs.Idle.{IsIdle, Stays};
 ghost use Rattle.word_tests.specs.Ready.{IsReady, OwnBySeat};
 
 use commons::refusal::Refusal;

@@ -1,7 +1,7 @@
 //! Scripts of one or two workers on the words of a pool, in one thread.
 
 ghost use Rattle.std.specs.Prelude.{◌≡◌, ℕ, IfSome, OnOk};
-ghost use Rattle.stack_tests.specs.Idle.{IsIdle};
+ghost use Rattle.word_tests.specs.Idle.{IsIdle};
 ghost use Rattle.word_tests.specs.Ready.{IsReady};
 
 use super::players::{FreeSeat, Player, Retired};

@@ -1,7 +1,7 @@
 //! The end of a pool over words.
 
 ghost use Rattle.std.specs.Prelude.{◌≡◌, IfOk};
-ghost use Rattle.stack_tests.specs.Idle.{IsIdle};
+ghost use Rattle.word_tests.specs.Idle.{IsIdle};
 
 use super::players::Retired;
 use book::book::Book;

@@ -2,7 +2,7 @@
 //! without it.
 
 ghost use Rattle.std.specs.Prelude.{IfOk};
-ghost use Rattle.stack_tests.specs.Idle.{IsIdle};
+ghost use Rattle.word_tests.specs.Idle.{IsIdle};
 ghost use Rattle.word_tests.specs.Ready.{IsReady, IsUnused};
 
 use super::places::{Counts, FREE, none_of, note, note_segs};

@@ -1,6 +1,6 @@
 use Rattle.std.proofs.Common.{◌≡◌, sym, ◌∙◌, subst}
 use Rattle.ground.specs.Seats.{Seated}
-use Rattle.stack_tests.specs.Idle.{IsIdle}
+use Rattle.word_tests.specs.Idle.{IsIdle}
 use Rattle.word_tests.proofs.Staying.{new_player}
 use Rattle.word_tests.proofs.tests.players.Player.make.Goals as goal
 
