@@ -499,7 +499,8 @@ uint32_t mbufpool_guard_split(struct mbufpool_guard *worker, struct mbufpool_gua
  *   - MBUFPOOL_STRANGER
  *   - MBUFPOOL_NO_ENTRIES: fewer are with this worker, and the depot has no magazine with elements.
  *   - MBUFPOOL_HEAD_SPENT, MBUFPOOL_CONTENDED: by an exchange at the depot.
- *   What it had got by then is put again, and what came from the depot meanwhile may be with this worker.
+ *   What it had got by then is put again, but for what the worker's full list and the depot both refuse,
+ *   which stays out; and what came from the depot meanwhile may be with this worker.
  */
 uint32_t mbufpool_guard_get(struct mbufpool_guard *worker, uint32_t *out, size_t n);
 

@@ -1,5 +1,5 @@
 -- What passes from a worker's hand to loans, and back.
-use Rattle.std.proofs.Common.{◌≡◌, ℕ, ◌+◌, ◌≤◌, List, ◌++◌, length, refl, ap, ◌∙◌, subst, arith}
+use Rattle.std.proofs.Common.{◌≡◌, ℕ, ◌+◌, List, length, refl, ap, subst, arith}
 use Rattle.commons.specs.Bag.{bag}
 use Rattle.commons.proofs.Bags.{bag-append}
 use Rattle.depot.specs.declared.cause.Cause.{Cause}

@@ -1,4 +1,4 @@
-use Rattle.std.proofs.Common.{ℕ, ◌-◌, ◌≤◌}
+use Rattle.std.proofs.Common.{◌-◌, ◌≤◌}
 use Rattle.depot.specs.Lending.{AreOf, FillsTo, IsWorker, KeepsAll, log_of}
 use Rattle.depot.proofs.opening.fill.Given as goal
 
