@@ -1,7 +1,7 @@
 //! Scripts that are read whole, up to one byte more than they may have, or not at all.
 
 use crate::tests::same;
-use script_io::{ReadFault, Retrying, Tally, read_bytes, read_script};
+use script_io::{BYTES_READ, ReadFault, Retrying, Tally, read_bytes};
 use std::io;
 use std::io::{ErrorKind, Read};
 
@@ -122,7 +122,7 @@ fn all_bytes_are_read_or_it_is_said_that_the_reader_failed(rt: HostRuntime) {
             fails,
             calls: 0,
         });
-        let found = read_script(rt.alloc(), &mut source);
+        let found = read_bytes(rt.alloc(), &mut source, BYTES_READ);
         let is_read = match &found {
             Ok(bytes) => bytes.as_slice().iter().all(|byte| *byte == b'x'),
             Err(_) => true,
@@ -167,7 +167,7 @@ fn below_the_tally_an_interrupted_read_is_tried_again(rt: HostRuntime) {
         fails: Some((2, ErrorKind::Interrupted)),
         calls: 0,
     }));
-    let found = read_script(rt.alloc(), &mut source).map(|bytes| bytes.len());
+    let found = read_bytes(rt.alloc(), &mut source, BYTES_READ).map(|bytes| bytes.len());
     same(&rt, &found, &Ok(5), "the bytes");
     same(&rt, &source.failed, &false, "whether it failed");
     same(&rt, &source.inner.0.calls, &7, "the calls");
@@ -184,7 +184,7 @@ fn refused_memory_is_no_fault_of_the_reader(rt: HostRuntime) {
         fails: None,
         calls: 0,
     });
-    match read_script(rt.alloc(), &mut source) {
+    match read_bytes(rt.alloc(), &mut source, BYTES_READ) {
         Ok(bytes) => same(&rt, &bytes.len(), &10_000, what),
         Err(fault) => same(&rt, &fault, &ReadFault::Memory, what),
     }

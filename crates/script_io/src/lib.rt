@@ -7,7 +7,7 @@ pub mod tally;
 pub mod told;
 pub mod writing;
 
-pub use reading::{BYTES_READ, ReadFault, read_bytes, read_script};
+pub use reading::{BYTES_READ, ReadFault, read_bytes};
 pub use retrying::Retrying;
 pub use tally::Tally;
 pub use told::{Sink, Source};

@@ -24,31 +24,6 @@ pub enum ReadFault {
     Memory,
 }
 
-/// Reads a script: all bytes of the reader, or `BYTES_READ` of more, which no script has.
-///
-/// The faults are those of `read_bytes`.
-pub fn read_script<R: Source>(alloc: Global, r: &mut Tally<R>) -> Result<Vec<u8>, ReadFault>
-    requires { r.old.failed ≡ false }
-
-    // The bytes are the reader's, all of them or as many as are read at most.
-    ensures bytes { IfOk result (λ bytes. IfSome (R.remaining r.old.inner)
-        (λ known. bytes.items ≡ take BYTES_READ known)) }
-    ensures most { IfOk result (λ bytes. vec_len bytes ≤ BYTES_READ) }
-    // No byte is left out, and none read that isn't answered.
-    ensures taken { IfOk result (λ bytes.
-        Consumes (R.remaining r.old.inner) (R.remaining r.new.inner) bytes.items) }
-    ensures end { IfOk result (λ bytes.
-        vec_len bytes < BYTES_READ → IsAtEnd (R.remaining r.new.inner)) }
-
-    // The reader failed, or memory was refused.
-    ensures device { (result ≡ Err ReadFault.Device) ↔ (r.new.failed ≡ true) }
-    ensures sound { OnOk result (r.new.failed ≡ false) }
-    ensures memory { result ≡ Err ReadFault.Memory → LosesSome
-        (R.remaining r.old.inner) (R.remaining r.new.inner) }
-{
-    read_bytes(alloc, r, BYTES_READ)
-}
-
 /// Reads all bytes of a reader, or this many of more.
 ///
 /// `Device` exactly where a read answered an error, which ends the reading, whatever its kind; a

@@ -132,6 +132,14 @@ impl Clone for Path {
 impl Copy for Path {}
 
 impl Path {
+    /// The steps, from the whole value on, and behind them as many times none as it is shorter than the
+    /// longest path.
+    pub fn steps(&self) -> &[Option<Step>]
+        ensures { result.now ≡ self.now.steps }
+    {
+        &self.steps[..]
+    }
+
     /// The whole value.
     pub(crate) fn whole() -> Path {
         Path {
