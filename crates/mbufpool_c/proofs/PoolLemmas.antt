@@ -7,7 +7,7 @@ use Rattle.depot.specs.declared.loans.Loans.{Loans}
 use Rattle.depot.specs.declared.view.Resting.{Resting}
 use Rattle.depot.specs.declared.view.View.{View}
 use Rattle.depot.specs.declared.worker.Worker.{Worker}
-use Rattle.depot.specs.Lending.{AreOf, AreOnce, GetsCount, GetsLoans, PutsCount, PutsLoans, cached, log_of}
+use Rattle.depot.specs.Lending.{AreOf, AreOnce, GetsCount, GetsLoans, KeepsAll, PutsCount, PutsLoans, cached, log_of}
 use Rattle.depot.specs.Resting.{IsBare}
 use Rattle.depot.specs.Seats.{Site, IsCause}
 use Rattle.mbufpool_c.specs.Pools.{AreAt, Flushed, GetsIn, Pooled, PutsIn, SamePool, no_rests, rests_of}
@@ -73,15 +73,15 @@ flushed tries (Err cause) w v ok err = err
 -- a handle's worker got at hand, or put
 pub gets-at-hand : (xs : List ℕ) (old : Option Pooled) (s t : Pooled) (x y : Loans) → old ≡ Some s → SamePool s t →
     AreOnce s.site y → GetsLoans s.site.tries (Ok xs) s.worker x t.worker y → GetsCount (Ok xs) s.worker t.worker →
-    GetsIn xs old x 0 (Some t) y
-gets-at-hand xs old s t x y is same once got count =
-    subst (λ (v : Option Pooled). GetsIn xs v x 0 (Some t) y) (sym is) (Ok tt, t, refl, refl, same, once, got, count)
+    KeepsAll (log_of s.worker) x (log_of t.worker) y → GetsIn xs old x 0 (Some t) y
+gets-at-hand xs old s t x y is same once got count all =
+    subst (λ (v : Option Pooled). GetsIn xs v x 0 (Some t) y) (sym is) (Ok tt, t, refl, refl, same, once, got, count, all)
 
 pub puts-at-hand : (xs : List ℕ) (old : Option Pooled) (s t : Pooled) (x y : Loans) → old ≡ Some s → SamePool s t →
     AreOnce s.site y → PutsLoans s.site.tries xs (Ok tt) s.worker x t.worker y → PutsCount xs (Ok tt) s.worker t.worker →
-    PutsIn xs old x 0 (Some t) y
-puts-at-hand xs old s t x y is same once put count =
-    subst (λ (v : Option Pooled). PutsIn xs v x 0 (Some t) y) (sym is) (Ok tt, t, refl, refl, same, once, put, count)
+    KeepsAll (log_of s.worker) x (log_of t.worker) y → PutsIn xs old x 0 (Some t) y
+puts-at-hand xs old s t x y is same once put count all =
+    subst (λ (v : Option Pooled). PutsIn xs v x 0 (Some t) y) (sym is) (Ok tt, t, refl, refl, same, once, put, count, all)
 
 -- it did nothing at hand, and then what a call apart does
 pub gets-apart : (xs : List ℕ) (old new : Option Pooled) (s t : Pooled) (x y z : Loans) (status : ℕ) → old ≡ Some s →

@@ -9,7 +9,7 @@ use Rattle.depot.specs.Seats.{Site}
 use Rattle.guard.specs.declared.refusal.NotPut.{NotPut}
 use Rattle.guard.specs.declared.refusal.NotPut.TheVariants.{Stranger, Home, Kept, Lost, Full}
 use Rattle.guard.specs.declared.worker.GuardWorker.{GuardWorker}
-use Rattle.guard.specs.Guards.{Counted, Gets, GetsNone, IsGuarded, IsNotPut, Marked, PutsAll, PutsIt, RefusedIn, Since, Still, StopsAt, count_of, kept_by, resting_of, view_of}
+use Rattle.guard.specs.Guards.{Counted, Gets, GetsNone, GivesBack, IsGuarded, IsNotPut, Marked, PutsAll, PutsIt, RefusedIn, Since, Still, StopsAt, count_of, kept_by, resting_of, view_of}
 use Rattle.mbufpool_c.specs.Pools.{number_of_cause, number_of_refusal, pool_status}
 
 -- a worker, its depot, and how many more workers can be made of it
@@ -80,11 +80,11 @@ abbrev pub SameGuard : Guarded → Guarded → Type 0
 SameGuard s t = (t.site ≡ s.site) × (t.left ≡ s.left)
 
 -- what a worker's get of a list did, by its answer: all are out with it; or none is, for a cause that was
--- read
-abbrev pub Got : ℕ → List ℕ → Result (Unit {0}) Cause → GuardWorker → GuardWorker → Type 0
-Got tries xs (Ok _) a b = Gets xs (resting_of a) (resting_of b)
-Got tries xs (Err cause) a b =
-    GetsNone (resting_of a) (resting_of b) × RefusedIn tries cause (view_of a) (view_of b)
+-- read, and what it had got before is put again
+abbrev pub Got : Site → List ℕ → Result (Unit {0}) Cause → GuardWorker → GuardWorker → Type 0
+Got g xs (Ok _) a b = Gets xs (resting_of a) (resting_of b)
+Got g xs (Err cause) a b =
+    GetsNone (resting_of a) (resting_of b) × RefusedIn g.tries cause (view_of a) (view_of b) × GivesBack g a b
 
 -- and a get of one
 abbrev pub GotOne : Site → ℕ → Result (Unit {0}) Cause → GuardWorker → GuardWorker → Type 0
@@ -113,7 +113,7 @@ Does did (Some s) status new =
 abbrev pub GetsGuard : List ℕ → Guarded → ℕ → Guarded → Type 0
 GetsGuard xs s status t =
     (answer : Result (Unit {0}) Cause) × (status ≡ pool_status answer)
-    × Got s.site.tries xs answer s.worker t.worker
+    × Got s.site xs answer s.worker t.worker
 
 abbrev pub GetsOneGuard : ℕ → Guarded → ℕ → Guarded → Type 0
 GetsOneGuard e s status t =

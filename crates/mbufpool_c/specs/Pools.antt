@@ -11,9 +11,9 @@ use Rattle.depot.specs.declared.loans.Loans.{Loans}
 use Rattle.depot.specs.declared.view.Resting.{Resting}
 use Rattle.depot.specs.declared.view.View.{View}
 use Rattle.depot.specs.declared.worker.Worker.{Worker}
-use Rattle.depot.specs.Lending.{AreOnce, GetsCount, GetsLoans, PutsCount, PutsLoans, cached, count_of, elements, lent_list, log_of}
+use Rattle.depot.specs.Lending.{AreOnce, GetsCount, GetsLoans, KeepsAll, PutsCount, PutsLoans, cached, count_of, elements, lent_list, log_of}
 use Rattle.depot.specs.Opening.{magazines_for}
-use Rattle.depot.specs.Seats.{Site, IsCause}
+use Rattle.depot.specs.Seats.{Site, IsCause, Logs}
 
 -- a worker, its depot, and how many more workers can be made of it
 pub record Pooled : Type 0 where
@@ -89,14 +89,15 @@ abbrev pub SamePool : Pooled → Pooled → Type 0
 SamePool s t = (t.site ≡ s.site) × (t.left ≡ s.left)
 
 -- The worker of a handle got values and lent them, or was refused, and C has the status of the
--- answer. Where there is no worker nothing was done, and C has the number of a stranger.
+-- answer; no value is lost. Where there is no worker nothing was done, and C has the number of a
+-- stranger.
 abbrev pub GetsIn : List ℕ → Option Pooled → Loans → ℕ → Option Pooled → Loans → Type 0
 GetsIn xs None x status new y = (status ≡ number_of StrangerShare) × (new ≡ None) × (y ≡ x)
 GetsIn xs (Some s) x status new y =
     (answer : Result (Unit {0}) Cause) × (t : Pooled) × (new ≡ Some t) × (status ≡ pool_status answer)
     × SamePool s t × AreOnce s.site y
     × GetsLoans s.site.tries (lent_list answer xs) s.worker x t.worker y
-    × GetsCount (lent_list answer xs) s.worker t.worker
+    × GetsCount (lent_list answer xs) s.worker t.worker × KeepsAll (log_of s.worker) x (log_of t.worker) y
 
 -- the same of a put of values that are lent
 abbrev pub PutsIn : List ℕ → Option Pooled → Loans → ℕ → Option Pooled → Loans → Type 0
@@ -105,6 +106,7 @@ PutsIn xs (Some s) x status new y =
     (answer : Result (Unit {0}) Cause) × (t : Pooled) × (new ≡ Some t) × (status ≡ pool_status answer)
     × SamePool s t × AreOnce s.site y
     × PutsLoans s.site.tries xs answer s.worker x t.worker y × PutsCount xs answer s.worker t.worker
+    × KeepsAll (log_of s.worker) x (log_of t.worker) y
 
 -- what a flush did with a worker, by its answer
 abbrev pub Flushed : ℕ → Result (Unit {0}) Cause → Worker → Worker → Type 0
@@ -112,13 +114,13 @@ Flushed tries (Ok _) w w' = length (cached w') ≡ 0
 Flushed tries (Err cause) w w' = IsCause tries cause (log_of w) (log_of w')
 
 -- The worker of a handle gave what it had to its pool, or was refused in between, and C has the status
--- of the answer.
+-- of the answer. No value has passed to another, or from it.
 abbrev pub FlushesIn : Option Pooled → ℕ → Option Pooled → Type 0
 FlushesIn None status new = (status ≡ number_of StrangerShare) × (new ≡ None)
 FlushesIn (Some s) status new =
     (answer : Result (Unit {0}) Cause) × (t : Pooled) × (new ≡ Some t) × (status ≡ pool_status answer)
     × SamePool s t × Flushed s.site.tries answer s.worker t.worker
-    × (count_of t.worker ≡ count_of s.worker)
+    × (count_of t.worker ≡ count_of s.worker) × Logs (log_of s.worker) (log_of t.worker)
 
 -- C has what the calls of a handle's worker have put less what they got, modulo 2^64; or there is no
 -- worker, and what was there stays

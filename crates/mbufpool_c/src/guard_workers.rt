@@ -265,7 +265,7 @@ impl OwnGuard {
     /// Gets as many elements as `out` has places: all of them, or none.
     #[inline(always)]
     pub fn get(&mut self, out: &mut [u32]) -> Result<(), Cause>
-        ensures got { Got self.old.site.tries out.new result self.old.worker self.new.worker }
+        ensures got { Got self.old.site out.new result self.old.worker self.new.worker }
         ensures since { Since self.old.worker self.new.worker }
         ensures same { SameGuard self.old self.new }
     {

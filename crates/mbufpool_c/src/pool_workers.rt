@@ -4,8 +4,8 @@ ghost use Rattle.std.specs.Prelude.{◌≡◌, ◌≢◌, ◌↔◌, ◌∷◌, 
 ghost use Rattle.commons.specs.Bag.{bag};
 ghost use Rattle.commons.specs.Refusals.{number_of as number_in};
 ghost use Rattle.commons.specs.declared.refusal.Refusal.TheVariants.{StrangerShare};
-ghost use Rattle.depot.specs.Lending.{AreOf, AreOnce, GetsCount, GetsLoans, PutsCount, PutsLoans, SameLoans, cached, count_of, elements, lent_list, log_of};
-ghost use Rattle.depot.specs.Seats.{IsCause};
+ghost use Rattle.depot.specs.Lending.{AreOf, AreOnce, GetsCount, GetsLoans, KeepsAll, PutsCount, PutsLoans, SameLoans, cached, count_of, elements, lent_list, log_of};
+ghost use Rattle.depot.specs.Seats.{IsCause, Logs};
 ghost use Rattle.mbufpool_c.specs.Pools.{IsFirst, IsNoPool, RefusesPool, all_values, number_of_cause, number_of_refusal};
 
 use commons::refusal::Refusal;
@@ -239,6 +239,7 @@ impl PoolWorker {
         ensures cause { IfErr result (λ cause. IsCause self.old.site.tries cause (log_of
             self.old.worker)
             (log_of self.new.worker)) }
+        ensures logs { Logs (log_of self.old.worker) (log_of self.new.worker) }
         ensures count { count_of self.new.worker ≡ count_of self.old.worker }
         ensures same { (self.new.site ≡ self.old.site) × (self.new.left ≡ self.old.left) }
     {
@@ -272,6 +273,7 @@ impl PoolWorker {
     pub fn get_at_hand(&mut self, out: &mut [u64], loans: &mut Loans) -> bool
         requires loans { AreOf self.old.site loans.old }
         ensures loans { AreOf self.old.site loans.new }
+        ensures all { KeepsAll (log_of self.old.worker) loans.old (log_of self.new.worker) loans.new }
         ensures once { result ≡ true → AreOnce self.old.site loans.new }
         ensures got { result ≡ true → GetsLoans self.old.site.tries (Ok out.new) self.old.worker
             loans.old self.new.worker loans.new }
@@ -288,6 +290,7 @@ impl PoolWorker {
     pub fn get_one_at_hand(&mut self, loans: &mut Loans) -> Option<u64>
         requires loans { AreOf self.old.site loans.old }
         ensures loans { AreOf self.old.site loans.new }
+        ensures all { KeepsAll (log_of self.old.worker) loans.old (log_of self.new.worker) loans.new }
         ensures once { IfSome result (λ _. AreOnce self.old.site loans.new) }
         ensures got { IfSome result (λ x. GetsLoans self.old.site.tries (Ok (x ∷ [])) self.old.worker
             loans.old self.new.worker loans.new) }
@@ -306,6 +309,7 @@ impl PoolWorker {
         requires loans { AreOf self.old.site loans.old }
         requires lent { (i : ℕ) → bag list.now i ≤ bag (elements loans.old) i }
         ensures loans { AreOf self.old.site loans.new }
+        ensures all { KeepsAll (log_of self.old.worker) loans.old (log_of self.new.worker) loans.new }
         ensures once { result ≡ true → AreOnce self.old.site loans.new }
         ensures put { result ≡ true → PutsLoans self.old.site.tries list.now (Ok tt)
             self.old.worker loans.old self.new.worker loans.new }
@@ -324,6 +328,7 @@ impl PoolWorker {
         requires loans { AreOf self.old.site loans.old }
         requires lent { (i : ℕ) → bag (value ∷ []) i ≤ bag (elements loans.old) i }
         ensures loans { AreOf self.old.site loans.new }
+        ensures all { KeepsAll (log_of self.old.worker) loans.old (log_of self.new.worker) loans.new }
         ensures once { result ≡ true → AreOnce self.old.site loans.new }
         ensures put { result ≡ true → PutsLoans self.old.site.tries (value ∷ []) (Ok tt)
             self.old.worker loans.old self.new.worker loans.new }
@@ -340,6 +345,7 @@ impl PoolWorker {
     pub fn get(&mut self, out: &mut [u64], loans: &mut Loans) -> Result<(), Cause>
         requires loans { AreOf self.old.site loans.old }
         ensures loans { AreOf self.old.site loans.new }
+        ensures all { KeepsAll (log_of self.old.worker) loans.old (log_of self.new.worker) loans.new }
         ensures once { AreOnce self.old.site loans.new }
         ensures got { GetsLoans self.old.site.tries (lent_list result out.new) self.old.worker
             loans.old
@@ -355,6 +361,7 @@ impl PoolWorker {
     pub fn get_one(&mut self, out: &mut u64, loans: &mut Loans) -> Result<(), Cause>
         requires loans { AreOf self.old.site loans.old }
         ensures loans { AreOf self.old.site loans.new }
+        ensures all { KeepsAll (log_of self.old.worker) loans.old (log_of self.new.worker) loans.new }
         ensures once { AreOnce self.old.site loans.new }
         ensures got { GetsLoans self.old.site.tries (lent_list result (out.new ∷ []))
             self.old.worker loans.old
@@ -378,6 +385,7 @@ impl PoolWorker {
         requires loans { AreOf self.old.site loans.old }
         requires lent { (i : ℕ) → bag list.now i ≤ bag (elements loans.old) i }
         ensures loans { AreOf self.old.site loans.new }
+        ensures all { KeepsAll (log_of self.old.worker) loans.old (log_of self.new.worker) loans.new }
         ensures once { AreOnce self.old.site loans.new }
         ensures put { PutsLoans self.old.site.tries list.now result self.old.worker loans.old
             self.new.worker loans.new }
@@ -393,6 +401,7 @@ impl PoolWorker {
         requires loans { AreOf self.old.site loans.old }
         requires lent { (i : ℕ) → bag (value ∷ []) i ≤ bag (elements loans.old) i }
         ensures loans { AreOf self.old.site loans.new }
+        ensures all { KeepsAll (log_of self.old.worker) loans.old (log_of self.new.worker) loans.new }
         ensures once { AreOnce self.old.site loans.new }
         ensures put { PutsLoans self.old.site.tries (value ∷ []) result self.old.worker loans.old
             self.new.worker loans.new }

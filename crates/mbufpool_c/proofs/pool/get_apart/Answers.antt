@@ -11,5 +11,5 @@ returns c =
       called = subst
           (λ (v : Option Pooled). GetsIn c.get-answer.new.out v c.args.pool.now.loans c.status_of.result
           (Some c.get-answer.new.self) c.get-answer.new.loans) (sym own.value)
-          (c.get-answer.result, c.get-answer.new.self, refl, c.status_of.ensures, did.same, did.once, did.got, did.count);
+          (c.get-answer.result, c.get-answer.new.self, refl, c.status_of.ensures, did.same, did.once, did.got, did.count, did.all);
     }

@@ -10,4 +10,4 @@ returns-clause-called c =
     subst
     (λ (v : Option Pooled). GetsIn (c.get_one-answer.new.out ∷ []) v c.args.pool.now.loans c.status_of.result
     (Some c.get_one-answer.new.self) c.get_one-answer.new.loans) (sym own.value)
-    (c.get_one-answer.result, c.get_one-answer.new.self, refl, c.status_of.ensures, did.same, did.once, did.got, did.count)
+    (c.get_one-answer.result, c.get_one-answer.new.self, refl, c.status_of.ensures, did.same, did.once, did.got, did.count, did.all)

@@ -19,4 +19,5 @@ returns-clause-called c =
       did.same,
       flushed _ c.flush-answer.result _ _ did.empty did.cause,
       did.count,
+      did.logs,
     )

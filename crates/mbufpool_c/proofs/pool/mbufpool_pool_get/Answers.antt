@@ -11,7 +11,7 @@ returns-then-get_at_hand c =
     let same = ap (λ (h : PoolHandle). h.value) c.is_empty.ensures.1 in
     record {
       called = gets-at-hand c.get_at_hand.new.out _ _ c.get_at_hand.new.self c.args.pool.now.loans c.get_at_hand.new.loans (sym same ∙ own.value)
-          did.same (did.once refl) (did.got refl) (did.count refl);
+          did.same (did.once refl) (did.got refl) (did.count refl) did.all;
     }
 
 -- which did nothing at hand

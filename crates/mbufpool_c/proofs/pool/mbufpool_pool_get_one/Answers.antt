@@ -10,7 +10,7 @@ returns-in-Some-clause-called c =
     let did = c.in-Some.ensures in
     let same = ap (λ (h : PoolHandle). h.value) c.is_empty.ensures.1 in
     gets-at-hand (c.in-Some.value ∷ []) _ _ c.get_one_at_hand.new.self c.args.pool.now.loans c.get_one_at_hand.new.loans (sym same ∙ own.value)
-    did.same did.once did.got did.count
+    did.same did.once did.got did.count did.all
 
 -- which did nothing at hand
 pub returns-clause-called : goal.returns-clause-called

@@ -11,7 +11,7 @@ returns-then-put_one_at_hand c =
     let same = ap (λ (h : PoolHandle). h.value) c.is_empty.ensures.1 in
     record {
       called = puts-at-hand (c.args.value ∷ []) _ _ c.put_one_at_hand.new.self c.args.pool.now.loans c.put_one_at_hand.new.loans (sym same ∙ own.value)
-          did.same (did.once refl) (did.put refl) (did.count refl);
+          did.same (did.once refl) (did.put refl) (did.count refl) did.all;
     }
 
 -- which did nothing at hand

@@ -11,5 +11,5 @@ returns c =
       called = subst
           (λ (v : Option Pooled). PutsIn c.args.list.now v c.args.pool.now.loans c.status_of.result
           (Some c.put-answer.new.self) c.put-answer.new.loans) (sym own.value)
-          (c.put-answer.result, c.put-answer.new.self, refl, c.status_of.ensures, did.same, did.once, did.put, did.count);
+          (c.put-answer.result, c.put-answer.new.self, refl, c.status_of.ensures, did.same, did.once, did.put, did.count, did.all);
     }

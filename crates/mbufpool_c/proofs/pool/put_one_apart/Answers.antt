@@ -11,5 +11,5 @@ returns c =
       called = subst
           (λ (v : Option Pooled). PutsIn (c.args.value ∷ []) v c.args.pool.now.loans c.status_of.result
           (Some c.put_one-answer.new.self) c.put_one-answer.new.loans) (sym own.value)
-          (c.put_one-answer.result, c.put_one-answer.new.self, refl, c.status_of.ensures, did.same, did.once, did.put, did.count);
+          (c.put_one-answer.result, c.put_one-answer.new.self, refl, c.status_of.ensures, did.same, did.once, did.put, did.count, did.all);
     }
