@@ -54,7 +54,7 @@ static const struct subject *const known[] = {
 #ifdef WITH_LIBRARY
 	&pool_subject, &worker_subject,
 #endif
-	&ring_sp_sc_subject, &ring_copy_subject, &twice_subject, &loses_subject,
+	&ring_sp_sc_subject, &ring_copy_subject, &none_subject, &twice_subject, &loses_subject,
 };
 #define FAULTY 2
 
@@ -160,7 +160,7 @@ static const char usage[] =
 	"bench [OPTION ..] [-- WORD OF EAL ..]\n"
 	"  --workload NAMES  stk1,stk8,stk32,get1,get32,pkt1,pkt32,pkt240,clone1,clone4,\n"
 	"                    pass1,pass32,handover\n"
-	"  --subject NAMES   ring_mp_mc,lf_stack,stack,plain,pool,worker,mbufpool,..,\n"
+	"  --subject NAMES   ring_mp_mc,lf_stack,stack,plain,none,pool,worker,mbufpool,..,\n"
 	"                    or another mempool handler\n"
 	"  --threads LIST    1,2,4\n"
 	"  --cache LIST      0,256\n"

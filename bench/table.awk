@@ -217,6 +217,7 @@ function passed(    c, i, n, who) {
     if (is_there["pool"])
         printf "| a pool of mbufpool.h | 0 | %s | %s |\n", with_least("pass1 2 0 pool"),
             with_least("pass32 2 0 pool")
+    printf "| no pool | 0 | %s | %s |\n", with_least("pass1 2 0 none"), with_least("pass32 2 0 none")
 }
 
 function handovers_row(label, who) {
