@@ -4,8 +4,8 @@
 guard := librte_mempool_mbufpool_guard.so
 of_guard := guard_apart.c guard_log.c guard_open.c guard_report.c guard_way.c call_places.c tallies.c
 guard_sources := mempool_guard.c $(of_guard)
-guard_headers := mempool_guard.h guard_pool.h call_places.h tallies.h guard_steps.h object_numbers.h one_process.h registering.h \
-	releases.h $(top)/include/mbufpool.h
+guard_headers := mempool_guard.h guard_pool.h call_places.h tallies.h guard_steps.h object_numbers.h \
+	library_causes.h one_process.h registering.h releases.h $(top)/include/mbufpool.h
 
 all: $(guard) guard_faults guard_orders
 

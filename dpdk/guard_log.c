@@ -9,6 +9,7 @@
 #include <rte_mbuf.h>
 
 #include "guard_pool.h"
+#include "library_causes.h"
 
 #define LINES_A_SECOND 10
 #define LINE_BITS 8
@@ -17,18 +18,6 @@
 #define LOG(level, p, format, ...) \
 	rte_log(RTE_LOG_##level, RTE_LOGTYPE_MEMPOOL, "mbufpool_guard: pool %s: " format "\n", \
 		(p)->mp->name, __VA_ARGS__)
-
-/* The refusals of the library that no mempool should meet, and what to do then. */
-static const struct {
-	uint32_t cause;
-	const char *name, *advice;
-} faults[] = {
-	{ MBUFPOOL_HEAD_SPENT, "MBUFPOOL_HEAD_SPENT",
-		"its magazines were exchanged as often as they can be: a new mempool is needed" },
-	{ MBUFPOOL_NO_MAGAZINE, "MBUFPOOL_NO_MAGAZINE",
-		"memory of the library was overwritten: see what writes beyond its own" },
-	{ MBUFPOOL_STRANGER, "MBUFPOOL_STRANGER", "the handle of its worker was overwritten" },
-};
 
 /* Writes the calls on the way to the one that is told, from the nearest on, as far as the stack can
  * be unwound: where DPDK's rte_pktmbuf_free() isn't in line, or a library frees, they say whose call
@@ -205,17 +194,12 @@ guard_log_stranger(struct guard_pool *p, const void *object, caller by)
 void
 guard_log_fault(struct guard_pool *p, const char *call, uint32_t cause)
 {
-	const char *name = "no cause of such a call", *advice = "the library isn't its header's";
-	size_t i;
+	const struct cause_text text = text_of_cause(
+		cause, "memory of the library was overwritten: see what writes beyond its own");
 
 	if (__atomic_exchange_n(&p->is_fault_told, 1, __ATOMIC_RELAXED))
 		return;
-	for (i = 0; i < RTE_DIM(faults); i++)
-		if (faults[i].cause == cause) {
-			name = faults[i].name;
-			advice = faults[i].advice;
-		}
-	LOG(ERR, p, "a %s was refused: %" PRIu32 ", %s: %s", call, cause, name, advice);
+	LOG(ERR, p, "a %s was refused: %" PRIu32 ", %s: %s", call, cause, text.name, text.advice);
 }
 
 void

@@ -35,6 +35,7 @@
 #include <rte_pause.h>
 #include <rte_spinlock.h>
 
+#include "library_causes.h"
 #include "mbufpool.h"
 #include "one_process.h"
 #include "pool_magazines.h"
@@ -63,57 +64,31 @@ struct pool {
 
 /* ---- what is logged ---- */
 
-/* The refusals of the library that a mempool may meet, and what to do then. */
-static const struct {
-	uint32_t cause;
-	const char *name, *advice;
-} causes[] = {
-	{ MBUFPOOL_HEAD_SPENT, "MBUFPOOL_HEAD_SPENT",
-		"its magazines were exchanged as often as they can be: a new mempool is needed" },
-	{ MBUFPOOL_NO_MAGAZINE, "MBUFPOOL_NO_MAGAZINE",
-		"more was put than was got: look for what is freed twice, by mbufpool_guard" },
-	{ MBUFPOOL_STRANGER, "MBUFPOOL_STRANGER", "the handle of its worker was overwritten" },
-};
-
-static const char *
-name_of(uint32_t cause, const char **advice)
-{
-	size_t i;
-
-	for (i = 0; i < RTE_DIM(causes); i++)
-		if (causes[i].cause == cause) {
-			*advice = causes[i].advice;
-			return causes[i].name;
-		}
-	*advice = "the library isn't its header's";
-	return "no cause of such a call";
-}
+#define OF_NO_MAGAZINE "more was put than was got: look for what is freed twice, by mbufpool_guard"
 
 /* Logs once for each pool that a get was refused for another cause than that objects are out. */
 static __rte_cold __rte_noinline void
 log_refused(struct pool *p, uint32_t cause)
 {
-	const char *name, *advice;
+	const struct cause_text text = text_of_cause(cause, OF_NO_MAGAZINE);
 
 	if (cause == MBUFPOOL_NO_ENTRIES ||
 		__atomic_exchange_n(&p->is_fault_told, 1, __ATOMIC_RELAXED))
 		return;
-	name = name_of(cause, &advice);
-	RTE_LOG(CRIT, MEMPOOL, "mbufpool: mempool %s refused a get: %u, %s: %s\n", p->name, cause, name,
-		advice);
+	RTE_LOG(CRIT, MEMPOOL, "mbufpool: mempool %s refused a get: %u, %s: %s\n", p->name, cause,
+		text.name, text.advice);
 }
 
 /* Logs once for each pool that it keeps what its magazines have no room for. */
 static __rte_cold __rte_noinline void
 log_kept(struct pool *p, uint32_t cause)
 {
-	const char *name, *advice;
+	const struct cause_text text = text_of_cause(cause, OF_NO_MAGAZINE);
 
 	if (__atomic_exchange_n(&p->is_keeping_told, 1, __ATOMIC_RELAXED))
 		return;
-	name = name_of(cause, &advice);
 	RTE_LOG(CRIT, MEMPOOL, "mbufpool: mempool %s keeps objects that its pool refused: %u, %s: they "
-		"are available, under a lock: %s\n", p->name, cause, name, advice);
+		"are available, under a lock: %s\n", p->name, cause, text.name, text.advice);
 }
 
 /* (more was put than the mempool has objects, and as much of it is kept) */
