@@ -1,13 +1,12 @@
 -- What becomes of texts on the errors, one after another.
 use Rattle.std.proofs.Common.{◌≡◌, ◌≢◌, ◌↔◌, ℕ, Bool, List, [], ◌∷◌, ◌++◌, Option, Some, None, Result, Ok, Err, IsErr, T, not, false, true, refl, sym, subst, ap, ◌∙◌, append_assoc}
-use Rattle.std.specs.Io.KnownBytes.{Appends}
 use Rattle.std.proofs.KnownBytes.{Appends-trans}
 use Rattle.std.proofs.lemmas.List.Elements.{All-append}
 use Rattle.commons.specs.declared.refusal.Refusal.{Refusal}
 use Rattle.commons.specs.declared.refusal.Refusal.TheVariants.{MissingShare, ScriptFault}
 use Rattle.commons.specs.Refusals.{place_text}
-use Rattle.script_io.specs.Told.{AddsCalls, EndsFailed, TakesBytes, Told, Took, Writes}
-use Rattle.tasks.specs.Telling.{Heard, IsTold, IsUntold, LastFailed, Puts}
+use Rattle.script_io.specs.Told.{AddsCalls, TakesBytes, Told, Took}
+use Rattle.tasks.specs.Telling.{Heard, IsTold, LastFailed, Puts}
 
 -- calls that are told, and then others, are told one after another
 told_further : (a b c : Option (List Told)) (xs ys : List Told) → AddsCalls a b xs → AddsCalls b c ys → AddsCalls a c (xs ++ ys)

@@ -16,7 +16,6 @@ use Rattle.snapshot.specs.declared.fault.Fault as faults
 use Rattle.snapshot_json.specs.Reading.{IsFaultOf, IsNoSnapshotText, IsSnapshotText}
 use Rattle.snapshot_json.specs.declared.fault.SnapshotFault.{SnapshotFault}
 use Rattle.snapshot_json.specs.declared.fault.SnapshotFault.TheVariants as reads
-use Rattle.snapshot_json.specs.Told.{told_of}
 use Rattle.statement_text.specs.StatementText.{text_of, text_of_settled}
 use Rattle.tasks.specs.declared.auditing.Placed.{Placed}
 use Rattle.tasks.specs.declared.failures.Failure.{Failure}
@@ -85,16 +84,10 @@ IsFailureIn s (Audited line) = IsFirstLine s line.items
 IsFailureIn s (Fault refusal) = IsRefusalIn s refusal
 IsFailureIn s _ = ⊥
 
--- this fault of a reading is reported: by its line, or memory was refused
+-- this fault of a reading is reported: as itself, but for memory that was refused
 abbrev pub IsMisread : SnapshotFault → Failure → Type 0
-IsMisread fault (Misread line) = (line.items ≡ told_of fault) × (fault ≢ reads.OutOfMemory)
-IsMisread fault failure = failure ≡ Fault refusals.OutOfMemory
-
--- the line tells of such a fault of a reading
-pub record TellsOf (IsFault : SnapshotFault → Type 0) (line : List ℕ) : Type 0 where
-  pub fault : SnapshotFault
-  pub is : IsFault fault
-  pub told : line ≡ told_of fault
+IsMisread fault (Misread told) = (told ≡ fault) × (fault ≢ reads.OutOfMemory)
+IsMisread fault failure = (failure ≡ Fault refusals.OutOfMemory) × (fault ≡ reads.OutOfMemory)
 
 -- the failure that came of bytes which are a snapshot's
 pub record FailsSnapshot (bytes : List ℕ) (failure : Failure) : Type 0 where
@@ -104,7 +97,7 @@ pub record FailsSnapshot (bytes : List ℕ) (failure : Failure) : Type 0 where
 
 -- that of bytes which aren't, or of memory that was refused for their reading
 abbrev pub FailsBytes : List ℕ → Failure → Type 0
-FailsBytes bytes (Misread line) = IsNoSnapshotText bytes × TellsOf (IsFaultOf bytes) line.items
+FailsBytes bytes (Misread fault) = IsNoSnapshotText bytes × IsFaultOf bytes fault
 FailsBytes bytes failure = failure ≡ Fault refusals.OutOfMemory
 
 -- the failure that came of the audit of bytes

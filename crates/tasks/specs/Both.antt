@@ -41,7 +41,7 @@ refusal_of which refusal = OfTwo which (causes.Refused refusal)
 -- and of a failure of its audit
 abbrev pub failure_of : Which → Failure → Failure
 failure_of which (Fault refusal) = refusal_of which refusal
-failure_of which (Misread line) = OfTwo which (causes.Misread line)
+failure_of which (Misread fault) = OfTwo which (causes.Misread fault)
 failure_of which (Audited line) = OfTwo which (causes.Audited line)
 failure_of which failure = failure
 

@@ -5,6 +5,7 @@ use Rattle.commons.specs.declared.refusal.Refusal.TheVariants as refusals
 use Rattle.commons.specs.Refusals.{number_of, text_of}
 use Rattle.script_io.specs.declared.reading.ReadFault.{ReadFault}
 use Rattle.script_io.specs.declared.reading.ReadFault.TheVariants.{Device, Memory}
+use Rattle.snapshot_json.specs.Told.{told_of}
 use Rattle.tasks.specs.declared.failures.Cause.{Cause}
 use Rattle.tasks.specs.declared.failures.Cause.TheVariants as causes
 use Rattle.tasks.specs.declared.failures.Failure.{Failure}
@@ -41,13 +42,13 @@ front_of Second = codes "second: "
 -- the line behind that
 abbrev pub cause_line : Cause → List ℕ
 cause_line (causes.Refused refusal) = fault_text refusal ++ codes "\n"
-cause_line (causes.Misread line) = line.items ++ codes "\n"
+cause_line (causes.Misread fault) = told_of fault ++ codes "\n"
 cause_line (causes.Audited line) = line.items ++ codes "\n"
 
 -- the line that tells of a failure
 abbrev pub line_of : Failure → List ℕ
 line_of (Unreadable file) = codes "cannot read " ++ file.now ++ codes "\n"
 line_of (Fault refusal) = fault_text refusal ++ codes "\n"
-line_of (Misread line) = line.items ++ codes "\n"
+line_of (Misread fault) = told_of fault ++ codes "\n"
 line_of (Audited line) = line.items ++ codes "\n"
 line_of (OfTwo which cause) = front_of which ++ cause_line cause

@@ -13,7 +13,7 @@ use Rattle.snapshot_json.specs.Reading.{IsNoSnapshotText}
 use Rattle.snapshot_json.specs.Repeats.{IsNoRepeatingText, IsTextFaultOf, IsTextOf}
 use Rattle.snapshot_json.specs.declared.text.Text as said
 use Rattle.snapshot_json.specs.declared.text.Text.TheVariants.{One, Repeating}
-use Rattle.tasks.specs.Audits.{IsRefusalIn, TellsOf}
+use Rattle.tasks.specs.Audits.{IsRefusalIn}
 use Rattle.tasks.specs.Both.{FailsEither}
 use Rattle.tasks.specs.Failures.{line_of}
 use Rattle.tasks.specs.Halves.{AreTwoTexts, IsOneText}
@@ -131,8 +131,7 @@ IsUnlisted text failure = ⊥
 -- that of bytes which aren't a snapshot's, even one whose list has elements twice; or memory was
 -- refused for their reading
 abbrev pub FailsText : List ℕ → Failure → Type 0
-FailsText bytes (Misread line) =
-    IsNoSnapshotText bytes × IsNoRepeatingText bytes × TellsOf (IsTextFaultOf bytes) line.items
+FailsText bytes (Misread fault) = IsNoSnapshotText bytes × IsNoRepeatingText bytes × IsTextFaultOf bytes fault
 FailsText bytes failure = failure ≡ Fault OutOfMemory
 
 -- that of bytes which are a snapshot's

@@ -130,7 +130,7 @@ refusal_prefix _ = codes "since: "
 abbrev pub older_prefix : Failure → List ℕ
 older_prefix (Unreadable file) = []
 older_prefix (Fault refusal) = refusal_prefix refusal
-older_prefix (Misread line) = codes "since: "
+older_prefix (Misread fault) = codes "since: "
 older_prefix (Audited line) = codes "since: "
 older_prefix (OfTwo which cause) = codes "since: "
 

@@ -1,5 +1,5 @@
 -- What became of a text on the errors.
-use Rattle.std.specs.Prelude.{ℕ, ◌≡◌, Bool, false, true, List, Option, Result, Ok, Err, OnErr, OnOk}
+use Rattle.std.specs.Prelude.{ℕ, ◌≡◌, Bool, false, true, List, Option, Result, OnErr, OnOk}
 use Rattle.std.specs.Io.KnownBytes.{Appends}
 use Rattle.script_io.specs.Told.{EndsFailed, TakesBytes, Told}
 use Rattle.script_io.specs.declared.tally.Tally.{Tally}

@@ -22,7 +22,6 @@ use snapshot_json::fault::SnapshotFault;
 use snapshot_json::read_snapshot;
 use statement_text::{pool_json, pool_text};
 use std::alloc::Global;
-use std::io::Write;
 
 /// What the audit of these bytes prints in a form: of the snapshot that they are, or of two that stand
 /// one behind the other, as the two pools of a script leave them.
@@ -79,22 +78,18 @@ pub(crate) fn audited<'a>(alloc: Global, bytes: &[u8]) -> Result<Placed, Failure
 {
     match read_snapshot(alloc, bytes) {
         Ok(snapshot) => of_snapshot(alloc, &snapshot),
-        Err(fault) => Err(misread(alloc, &fault)),
+        Err(fault) => Err(misread(fault)),
     }
 }
 
 /// What is reported of bytes that are no snapshot's.
-pub(crate) fn misread<'a>(alloc: Global, fault: &SnapshotFault) -> Failure<'a>
-    ensures { IsMisread fault.now result }
+pub(crate) fn misread<'a>(fault: SnapshotFault) -> Failure<'a>
+    ensures { IsMisread fault result }
 {
     if let SnapshotFault::OutOfMemory = fault {
         return Failure::Fault(Refusal::OutOfMemory);
     }
-    let mut line = Vec::new(alloc);
-    match write!(line, "{fault}") {
-        Ok(()) => Failure::Misread(line),
-        Err(_) => Failure::Fault(Refusal::OutOfMemory),
-    }
+    Failure::Misread(fault)
 }
 
 /// The audit of a snapshot.

@@ -48,7 +48,7 @@ pub(crate) fn of_two<'a>(which: Which, failure: Failure<'a>) -> Failure<'a>
 {
     match failure {
         Failure::Fault(refusal) => refused(which, refusal),
-        Failure::Misread(line) => Failure::OfTwo(which, Cause::Misread(line)),
+        Failure::Misread(fault) => Failure::OfTwo(which, Cause::Misread(fault)),
         Failure::Audited(line) => Failure::OfTwo(which, Cause::Audited(line)),
         other => other,
     }

@@ -5,6 +5,7 @@ ghost use Rattle.tasks.specs.Pairs.{older_prefix, refusal_prefix};
 
 use crate::comparing::Difference;
 use commons::refusal::Refusal;
+use snapshot_json::fault::SnapshotFault;
 
 /// Why nothing was printed of a script or a snapshot.
 #[derive(Drop)]
@@ -13,8 +14,8 @@ pub enum Failure<'a> {
     Unreadable(&'a str),
     /// The script has a fault, a snapshot isn't one of a pool, or memory was refused.
     Fault(Refusal),
-    /// The bytes are no snapshot's, and this line says why.
-    Misread(Vec<u8>),
+    /// The bytes are no snapshot's, and this is why.
+    Misread(SnapshotFault),
     /// The snapshot has a fault, and this is its line.
     Audited(Vec<u8>),
     /// Of two snapshots that stand in one text, this one has a failure.
@@ -33,8 +34,8 @@ pub enum Which {
 pub enum Cause {
     /// It isn't one of a pool.
     Refused(Refusal),
-    /// The bytes are no snapshot's, and this line says why.
-    Misread(Vec<u8>),
+    /// The bytes are no snapshot's, and this is why.
+    Misread(SnapshotFault),
     /// The snapshot has a fault, and this is its line.
     Audited(Vec<u8>),
 }

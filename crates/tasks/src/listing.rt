@@ -150,7 +150,7 @@ fn listed<'a>(alloc: Global, bytes: &[u8]) -> Result<Found, Failure<'a>>
 {
     match read_text(alloc, bytes) {
         Ok(text) => of_text(alloc, text),
-        Err(fault) => Err(misread(alloc, &fault)),
+        Err(fault) => Err(misread(fault)),
     }
 }
 

@@ -6,11 +6,14 @@ ghost use Rattle.tasks.specs.Failures.{cause_line, fault_text, front_of, line_of
 ghost use Rattle.tasks.specs.Pairs.{difference_text, line_of_pair, name_of, older_prefix};
 ghost use Rattle.tasks.specs.Telling.{IsTold, Puts, heard};
 
+mod misread;
+
 use crate::comparing::{Difference, Limit};
 use crate::explaining::ExplainedFailure;
 use crate::failures::{Cause, Failure, PairFailure, Which, before, front};
 use commons::refusal::Refusal;
 use itoa::Buffer;
+use misread::put_misread_line;
 use script_io::{Sink, Tally, write_out};
 use script_reasons::second::Second;
 
@@ -133,7 +136,7 @@ fn put_line<E: Sink>(errors: &mut Tally<E>, failure: &Failure<'_>)
     match failure {
         Failure::Unreadable(file) => put_unreadable(errors, file),
         Failure::Fault(refusal) => put_fault_line(errors, *refusal),
-        Failure::Misread(line) => put_text_line(errors, line.as_slice()),
+        Failure::Misread(fault) => put_misread_line(errors, fault),
         Failure::Audited(line) => put_text_line(errors, line.as_slice()),
         Failure::OfTwo(which, cause) => put_of_two(errors, *which, cause),
     }
@@ -174,7 +177,7 @@ fn put_cause<E: Sink>(errors: &mut Tally<E>, cause: &Cause)
 {
     match cause {
         Cause::Refused(refusal) => put_fault_line(errors, *refusal),
-        Cause::Misread(line) => put_text_line(errors, line.as_slice()),
+        Cause::Misread(fault) => put_misread_line(errors, fault),
         Cause::Audited(line) => put_text_line(errors, line.as_slice()),
     }
 }
@@ -243,20 +246,20 @@ fn put_place<E: Sink>(errors: &mut Tally<E>, refusal: Refusal)
         (place_text refusal) }
 {
     match refusal {
-        Refusal::MissingShare(worker) => put_numbered(errors, b" worker ", worker),
-        Refusal::ScriptFault(line) => put_numbered(errors, b" line ", line),
+        Refusal::MissingShare(worker) => put_numbered(errors, b" worker ", u64::from(worker)),
+        Refusal::ScriptFault(line) => put_numbered(errors, b" line ", u64::from(line)),
         _ => put(errors, b""),
     }
 }
 
 /// Puts a text, and behind it a number in decimal.
 #[tactic(auto, using(crate::proofs::Tellings::puts_then))]
-fn put_numbered<E: Sink>(errors: &mut Tally<E>, text: &[u8], number: u32)
+fn put_numbered<E: Sink>(errors: &mut Tally<E>, text: &[u8], number: u64)
     ensures { Puts (heard E.contents E.told errors.old) (heard E.contents E.told errors.new)
         (text.now ++ decimal number) }
 {
     put(errors, text);
-    put_number(errors, u64::from(number));
+    put_number(errors, number);
 }
 
 /// Puts a number in decimal.

@@ -1,0 +1,6 @@
+use Rattle.tasks.proofs.Tellings.{puts_then}
+use Rattle.tasks.proofs.telling.misread.put_too_long.Goals as goal
+
+-- how many bytes, and the word
+pub returns : goal.returns
+returns g c = puts_then _ _ _ _ _ c.put_numbered.ensures c.put.ensures
