@@ -1,5 +1,6 @@
 -- The line that tells of a fault of a snapshot, without its end, and the lines of many.
 use Rattle.std.specs.Prelude.{ℕ, ◌+◌, ◌==◌, Bool, true, false, if◌then◌else◌, nat_le, List, [], ◌∷◌, ◌++◌, codes, decimal, flat_map, length}
+use Rattle.audit_text.specs.FaultNumbers.{name_of, number_of}
 use Rattle.audit_text.specs.Places.{others_of, owners_of, places_on}
 use Rattle.audit_text.specs.declared.place.FreeList.TheVariants.{Stack, Cache}
 use Rattle.audit_text.specs.declared.place.Place.{Place}
@@ -76,51 +77,47 @@ shape_text s =
     else codes "not a link for each element"
 
 -- how a fault's line begins: with its number and name
-unfoldable pub front_text : ℕ → List ℕ → List ℕ
-front_text number name = codes "fault " ++ decimal number ++ codes " " ++ name
+unfoldable pub front_text : Fault → List ℕ
+front_text fault = codes "fault " ++ decimal (number_of fault) ++ codes " " ++ name_of fault
 
--- an element after that
-unfoldable pub element_text : ℕ → List ℕ → ℕ → List ℕ
-element_text number name e = front_text number name ++ codes " element " ++ decimal e
+-- an element behind that
+unfoldable pub element_text : ℕ → List ℕ
+element_text e = codes " element " ++ decimal e
 
 -- the length word, and how long the walk is
 unfoldable pub length_text : ℕ → ℕ → List ℕ
-length_text word found = front_text 104 (codes "BadLength") ++ codes " word " ++ decimal word ++ codes ", walk " ++ decimal found
+length_text word found = codes " word " ++ decimal word ++ codes ", walk " ++ decimal found
 
 -- an element that the pool doesn't have, and where it is named
 unfoldable pub stranger_text : ℕ → List Place → List ℕ
-stranger_text e places = front_text 105 (codes "BadElem") ++ codes " " ++ decimal e ++ first_text places
-
--- where what is no packet stands
-unfoldable pub other_text : List Place → List ℕ
-other_text places = front_text 106 (codes "BadPacket") ++ first_text places
-
--- an element, and two segments whose own one it is
-unfoldable pub header_text : ℕ → List Place → List ℕ
-header_text e places = element_text 107 (codes "DoubleHeader") e ++ two_text places
+stranger_text e places = codes " " ++ decimal e ++ first_text places
 
 -- an element, and two places where it stands
-unfoldable pub doubled_text : ℕ → List Place → List ℕ
-doubled_text e places = element_text 108 (codes "Doubled") e ++ two_text places
+unfoldable pub twice_text : ℕ → List Place → List ℕ
+twice_text e places = element_text e ++ two_text places
 
 -- an element, its count, and how often it is held
 unfoldable pub count_text : ℕ → ℕ → ℕ → List ℕ
-count_text e word holds =
-    element_text 110 (codes "BadCount") e ++ codes ": count " ++ decimal word ++ codes ", held " ++ decimal holds
+count_text e word holds = element_text e ++ codes ": count " ++ decimal word ++ codes ", held " ++ decimal holds
 
--- the line of a fault, where these elements are the stack of the snapshot, from the top down
+-- what a fault names, and where that stands; these elements are the stack of the snapshot, from the top
+-- down
+abbrev pub named_text : List ℕ → Snapshot → Fault → List ℕ
+named_text stack s BadShape = codes ": " ++ shape_text s
+named_text stack s (BadTop word) = codes " " ++ decimal word
+named_text stack s Loop = []
+named_text stack s (BadLength word found) = length_text word found
+named_text stack s (BadElem e) = stranger_text e (places_on stack s e)
+named_text stack s BadPacket = first_text (others_of s)
+named_text stack s (DoubleHeader e) = twice_text e (owners_of s e)
+named_text stack s (Doubled e) = twice_text e (places_on stack s e)
+named_text stack s (Lost e) = element_text e
+named_text stack s (BadCount e word holds) = count_text e word holds
+named_text stack s OutOfMemory = []
+
+-- the line of a fault, where these elements are the stack
 abbrev pub fault_text_on : List ℕ → Snapshot → Fault → List ℕ
-fault_text_on stack s BadShape = codes "fault 101 BadShape: " ++ shape_text s
-fault_text_on stack s (BadTop word) = codes "fault 102 BadTop " ++ decimal word
-fault_text_on stack s Loop = codes "fault 103 Loop"
-fault_text_on stack s (BadLength word found) = length_text word found
-fault_text_on stack s (BadElem e) = stranger_text e (places_on stack s e)
-fault_text_on stack s BadPacket = other_text (others_of s)
-fault_text_on stack s (DoubleHeader e) = header_text e (owners_of s e)
-fault_text_on stack s (Doubled e) = doubled_text e (places_on stack s e)
-fault_text_on stack s (Lost e) = codes "fault 109 Lost element " ++ decimal e
-fault_text_on stack s (BadCount e word holds) = count_text e word holds
-fault_text_on stack s OutOfMemory = codes "fault 2 OutOfMemory"
+fault_text_on stack s fault = front_text fault ++ named_text stack s fault
 
 -- the line of a fault, where the stack is the walk along the links
 abbrev pub fault_text : Snapshot → Fault → List ℕ

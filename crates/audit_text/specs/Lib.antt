@@ -1,3 +1,4 @@
 pub mod FaultData
+pub mod FaultNumbers
 pub mod FaultText
 pub mod Places

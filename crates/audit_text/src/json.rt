@@ -5,9 +5,10 @@ ghost use Rattle.serde_json.specs.Data.{depth};
 ghost use Rattle.serde_json.specs.Read.{max_depth, read};
 ghost use Rattle.serde_json.specs.View.{view};
 ghost use Rattle.serde_json.specs.Written.{has_float};
-ghost use Rattle.audit_text.specs.FaultData.{elem_of, fault_data, faults_data, json_of, name_of, number_of, two_data};
+ghost use Rattle.audit_text.specs.FaultData.{elem_of, fault_data, faults_data, json_of, two_data};
 
 use crate::fault_string;
+use crate::numbers::{name_of, number_of};
 use commons::refusal::Refusal;
 use serde_json::{Value, json};
 use snapshot::fault::Fault;
@@ -203,43 +204,5 @@ fn elem_of(fault: Fault) -> Option<u32>
         Fault::Lost(elem) => Some(elem),
         Fault::BadCount { elem, .. } => Some(elem),
         _ => None,
-    }
-}
-
-/// Its name.
-fn name_of(fault: Fault) -> &'static str
-    ensures { result.now ≡ name_of fault }
-{
-    match fault {
-        Fault::BadShape => "BadShape",
-        Fault::BadTop(_) => "BadTop",
-        Fault::Loop => "Loop",
-        Fault::BadLength { .. } => "BadLength",
-        Fault::BadElem(_) => "BadElem",
-        Fault::BadPacket => "BadPacket",
-        Fault::DoubleHeader(_) => "DoubleHeader",
-        Fault::Doubled(_) => "Doubled",
-        Fault::Lost(_) => "Lost",
-        Fault::BadCount { .. } => "BadCount",
-        Fault::OutOfMemory => "OutOfMemory",
-    }
-}
-
-/// Its number.
-fn number_of(fault: Fault) -> u32
-    ensures { result ≡ number_of fault }
-{
-    match fault {
-        Fault::BadShape => 101,
-        Fault::BadTop(_) => 102,
-        Fault::Loop => 103,
-        Fault::BadLength { .. } => 104,
-        Fault::BadElem(_) => 105,
-        Fault::BadPacket => 106,
-        Fault::DoubleHeader(_) => 107,
-        Fault::Doubled(_) => 108,
-        Fault::Lost(_) => 109,
-        Fault::BadCount { .. } => 110,
-        Fault::OutOfMemory => 2,
     }
 }

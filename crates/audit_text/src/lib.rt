@@ -5,6 +5,7 @@ mod finding;
 pub mod json;
 pub mod lines;
 mod lists;
+mod numbers;
 mod packets;
 pub mod place;
 mod shape;
@@ -13,7 +14,7 @@ mod wording;
 mod writing;
 
 ghost use Rattle.std.specs.Prelude.{◌≡◌, ◌++◌, IfErr, IfOk, OnOk, string_bytes};
-ghost use Rattle.audit_text.specs.FaultText.{fault_text, fault_text_on};
+ghost use Rattle.audit_text.specs.FaultText.{fault_text, fault_text_on, named_text};
 ghost use Rattle.snapshot.specs.Snapshots.{walk};
 
 use commons::refusal::Refusal;
@@ -23,9 +24,10 @@ use shape::shape_words;
 use snapshot::fault::Fault;
 use snapshot::snapshot::Snapshot;
 use std::alloc::{AllocError, Global};
+use wording::write_first;
 use writing::{
-    write_count, write_doubled, write_header, write_length, write_lost, write_other, write_shape,
-    write_stranger, write_top,
+    write_count, write_element, write_front, write_length, write_shape, write_stranger, write_top,
+    write_twice,
 };
 
 /// The line that tells of a fault of a snapshot, without its end: its number and name, and then
@@ -98,10 +100,25 @@ fn write_fault(
     ensures { OnOk result (string_bytes out.new ≡ string_bytes out.old
         ++ fault_text_on stack.now snapshot.now fault) }
 {
+    write_front(out, fault)?;
+    write_named(alloc, out, snapshot, stack, fault)
+}
+
+/// What a fault names, and where that stands.
+fn write_named(
+    alloc: Global,
+    out: &mut String,
+    snapshot: &Snapshot,
+    stack: &[u32],
+    fault: Fault,
+) -> Result<(), AllocError>
+    ensures { OnOk result (string_bytes out.new ≡ string_bytes out.old
+        ++ named_text stack.now snapshot.now fault) }
+{
     match fault {
         Fault::BadShape => write_shape(out, shape_words(snapshot)),
         Fault::BadTop(word) => write_top(out, word),
-        Fault::Loop => out.push_str("fault 103 Loop"),
+        Fault::Loop => Ok(()),
         Fault::BadLength { word, found } => write_length(out, word, found),
         Fault::BadElem(elem) => {
             let places = everywhere(alloc, snapshot, stack, elem)?;
@@ -109,18 +126,18 @@ fn write_fault(
         }
         Fault::BadPacket => {
             let places = other_packets(alloc, snapshot)?;
-            write_other(out, places.as_slice())
+            write_first(out, places.as_slice())
         }
         Fault::DoubleHeader(elem) => {
             let places = owners(alloc, snapshot, elem)?;
-            write_header(out, elem, places.as_slice())
+            write_twice(out, elem, places.as_slice())
         }
         Fault::Doubled(elem) => {
             let places = everywhere(alloc, snapshot, stack, elem)?;
-            write_doubled(out, elem, places.as_slice())
+            write_twice(out, elem, places.as_slice())
         }
-        Fault::Lost(elem) => write_lost(out, elem),
+        Fault::Lost(elem) => write_element(out, elem),
         Fault::BadCount { elem, word, holds } => write_count(out, elem, word, holds),
-        Fault::OutOfMemory => out.push_str("fault 2 OutOfMemory"),
+        Fault::OutOfMemory => Ok(()),
     }
 }

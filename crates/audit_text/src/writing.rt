@@ -1,53 +1,45 @@
-//! What a fault names, and where that stands.
+//! A fault's line: its number and name, and what it names.
 
 ghost use Rattle.std.specs.Prelude.{◌≡◌, ◌++◌, OnOk, codes, decimal, string_bytes};
-ghost use Rattle.audit_text.specs.FaultText.{count_text, doubled_text, element_text, front_text, header_text, length_text, other_text, stranger_text};
+ghost use Rattle.audit_text.specs.FaultText.{count_text, element_text, front_text, length_text, stranger_text, twice_text};
 
+use crate::numbers::{name_of, number_of};
 use crate::place::Place;
 use crate::wording::{write_first, write_two};
+use snapshot::fault::Fault;
 use std::alloc::AllocError;
 
 /// How a fault's line begins: with its number and name.
 #[tactic(auto, unfolding(crate::specs::FaultText::front_text))]
-fn write_front(out: &mut String, number: u32, name: &str) -> Result<(), AllocError>
-    ensures { OnOk result (string_bytes out.new ≡ string_bytes out.old
-        ++ front_text number name.now) }
+pub(crate) fn write_front(out: &mut String, fault: Fault) -> Result<(), AllocError>
+    ensures { OnOk result (string_bytes out.new ≡ string_bytes out.old ++ front_text fault) }
 {
+    let (number, name) = (number_of(fault), name_of(fault));
     write!(out, "fault {number} {name}")
 }
 
-/// How it begins where it names an element.
+/// An element that it names.
 #[tactic(auto, unfolding(crate::specs::FaultText::element_text))]
-fn write_element(out: &mut String, number: u32, name: &str, elem: u32) -> Result<(), AllocError>
-    ensures { OnOk result (string_bytes out.new ≡ string_bytes out.old
-        ++ element_text number name.now elem) }
+pub(crate) fn write_element(out: &mut String, elem: u32) -> Result<(), AllocError>
+    ensures { OnOk result (string_bytes out.new ≡ string_bytes out.old ++ element_text elem) }
 {
-    write_front(out, number, name)?;
     write!(out, " element {elem}")
 }
 
 /// What of the shape is wrong.
 pub(crate) fn write_shape(out: &mut String, words: &str) -> Result<(), AllocError>
     ensures { OnOk result (string_bytes out.new ≡ string_bytes out.old
-        ++ (codes "fault 101 BadShape: " ++ words.now)) }
+        ++ (codes ": " ++ words.now)) }
 {
-    write!(out, "fault 101 BadShape: {words}")
+    write!(out, ": {words}")
 }
 
 /// A word above the population.
 pub(crate) fn write_top(out: &mut String, word: u32) -> Result<(), AllocError>
     ensures { OnOk result (string_bytes out.new ≡ string_bytes out.old
-        ++ (codes "fault 102 BadTop " ++ decimal word)) }
+        ++ (codes " " ++ decimal word)) }
 {
-    write!(out, "fault 102 BadTop {word}")
-}
-
-/// An element that is nowhere.
-pub(crate) fn write_lost(out: &mut String, elem: u32) -> Result<(), AllocError>
-    ensures { OnOk result (string_bytes out.new ≡ string_bytes out.old
-        ++ (codes "fault 109 Lost element " ++ decimal elem)) }
-{
-    write!(out, "fault 109 Lost element {elem}")
+    write!(out, " {word}")
 }
 
 /// The length word, and how long the walk is.
@@ -55,7 +47,6 @@ pub(crate) fn write_lost(out: &mut String, elem: u32) -> Result<(), AllocError>
 pub(crate) fn write_length(out: &mut String, word: u64, found: u64) -> Result<(), AllocError>
     ensures { OnOk result (string_bytes out.new ≡ string_bytes out.old ++ length_text word found) }
 {
-    write_front(out, 104, "BadLength")?;
     write!(out, " word {word}, walk {found}")
 }
 
@@ -69,37 +60,17 @@ pub(crate) fn write_stranger(
     ensures { OnOk result (string_bytes out.new ≡ string_bytes out.old
         ++ stranger_text elem places.now) }
 {
-    write_front(out, 105, "BadElem")?;
     write!(out, " {elem}")?;
     write_first(out, places)
 }
 
-/// The first place where something is no packet.
-#[tactic(auto, unfolding(crate::specs::FaultText::other_text))]
-pub(crate) fn write_other(out: &mut String, places: &[Place]) -> Result<(), AllocError>
-    ensures { OnOk result (string_bytes out.new ≡ string_bytes out.old ++ other_text places.now) }
-{
-    write_front(out, 106, "BadPacket")?;
-    write_first(out, places)
-}
-
-/// An element, and the first two segments whose own one it is.
-#[tactic(auto, unfolding(crate::specs::FaultText::header_text))]
-pub(crate) fn write_header(out: &mut String, elem: u32, places: &[Place]) -> Result<(), AllocError>
+/// An element, and the first two of these places.
+#[tactic(auto, unfolding(crate::specs::FaultText::twice_text))]
+pub(crate) fn write_twice(out: &mut String, elem: u32, places: &[Place]) -> Result<(), AllocError>
     ensures { OnOk result (string_bytes out.new ≡ string_bytes out.old
-        ++ header_text elem places.now) }
+        ++ twice_text elem places.now) }
 {
-    write_element(out, 107, "DoubleHeader", elem)?;
-    write_two(out, places)
-}
-
-/// An element, and the first two places where it stands.
-#[tactic(auto, unfolding(crate::specs::FaultText::doubled_text))]
-pub(crate) fn write_doubled(out: &mut String, elem: u32, places: &[Place]) -> Result<(), AllocError>
-    ensures { OnOk result (string_bytes out.new ≡ string_bytes out.old
-        ++ doubled_text elem places.now) }
-{
-    write_element(out, 108, "Doubled", elem)?;
+    write_element(out, elem)?;
     write_two(out, places)
 }
 
@@ -114,6 +85,6 @@ pub(crate) fn write_count(
     ensures { OnOk result (string_bytes out.new ≡ string_bytes out.old
         ++ count_text elem word holds) }
 {
-    write_element(out, 110, "BadCount", elem)?;
+    write_element(out, elem)?;
     write!(out, ": count {word}, held {holds}")
 }
