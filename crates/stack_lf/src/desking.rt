@@ -43,7 +43,7 @@ pub(crate) fn offer(
     }
 }
 
-/// TakesOnWords the packet off a desk that is full: seizes the desk, takes the packet out, and makes the
+/// Takes the packet off a desk that is full: seizes the desk, takes the packet out, and makes the
 /// desk empty.
 pub(crate) fn take(ground: &Ground, seat: &mut GroundSeat, desk: u32) -> Result<Packet, Refusal>
     requires of { IsOf ground.now seat.old }

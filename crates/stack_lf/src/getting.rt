@@ -104,7 +104,7 @@ impl Attempt for Pop {
     ghost may_again = { λ a k v look seen h. h };
 }
 
-/// GetsOnWords as many elements as `out` has places: reserves them, and pops them, or gives back what was
+/// Gets as many elements as `out` has places: reserves them, and pops them, or gives back what was
 /// reserved.
 #[inline(always)]
 pub(crate) fn get(ground: &Ground, seat: &mut GroundSeat, out: &mut [u32]) -> Result<(), Refusal>

@@ -70,7 +70,7 @@ impl Attempt for Push<'_> {
     ghost may_again = { λ a k v look seen h. h };
 }
 
-/// PutsOnWords a list onto the stack, and raises the length afterwards.
+/// Puts a list onto the stack, and raises the length afterwards.
 #[inline(always)]
 pub(crate) fn put(ground: &Ground, seat: &mut GroundSeat, list: &[u32]) -> Result<(), Refusal>
     requires of { IsOf ground.now seat.old }
