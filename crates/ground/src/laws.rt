@@ -26,9 +26,9 @@ pub fn a_held_element_is_not_given()
     ensures { HeldIsNotGiven }
 {}
 
-/// The two worlds that an operation on a desk's word passes without leaving a word so, between the
-/// `PutIn` and the `Open` and between the `TakeOut` and the `Clear`, are lawful: the packet's holds
-/// are its worker's there, and the desk has none.
+/// While a packet is put on a desk or taken off it, two worlds are passed that no word shows: between
+/// the `PutIn` and the `Open`, and between the `TakeOut` and the `Clear`. Both are lawful: the packet's
+/// holds are its worker's there, and the desk has none.
 pub fn a_packet_on_its_way_is_its_workers()
     ensures { PassesLawful }
 {}
