@@ -8,7 +8,7 @@ use Rattle.audit_text.specs.declared.place.Place.{Place}
 use Rattle.audit_text.specs.declared.place.Place.TheVariants.{Free, Packet, Own, Base, Hosted}
 use Rattle.audit_text.specs.declared.place.Table.{Table}
 use Rattle.audit_text.specs.declared.place.Table.TheVariants.{Slots, Desks}
-use Rattle.pool_model.specs.declared.guest.Guest.{Guest}
+use Rattle.pool_statement.specs.declared.guest.Guest.{Guest}
 use Rattle.snapshot.specs.declared.snapshot.ShareData.{ShareData}
 use Rattle.snapshot.specs.declared.snapshot.Snapshot.{Snapshot}
 

@@ -7,7 +7,7 @@ use crate::lists::{in_caches, in_list, note};
 use crate::place::{FreeList, Place, Table};
 use commons::packet::Seg;
 use commons::seq::Seq;
-use pool_model::guest::Guest;
+use pool_statement::guest::Guest;
 use snapshot::snapshot::{ShareData, Snapshot};
 use std::alloc::{AllocError, Global};
 

@@ -11,7 +11,7 @@ use Rattle.commons.specs.Packets.{held_in, hold_of, holds_in_slot, holds_of_pack
 use Rattle.commons.proofs.Bags.{bag-append, bag-cons, bag-nil, bag-single}
 use Rattle.mbuf.specs.Foreign.{bases_in, bases_in_slot, bases_of_packet}
 use Rattle.mbuf.specs.Members.{Member}
-use Rattle.pool_model.specs.declared.guest.Guest.{Guest}
+use Rattle.pool_statement.specs.declared.guest.Guest.{Guest}
 use Rattle.pool_model.specs.Guests.{AreOfWorkers, guest_holds, guest_of, guests_by, guests_for, guests_in_slot, local_packet, local_place, local_seg, local_table}
 
 -- guests in two parts

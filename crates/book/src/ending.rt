@@ -21,7 +21,7 @@ use crate::share::{Share, lose_all};
 use commons::closed::Closed;
 use commons::limits::Limits;
 use commons::refusal::Refusal;
-use pool_model::statement::Statement;
+use pool_statement::statement::Statement;
 use std::alloc::Global;
 
 /// Settles what a whole pool of these limits left at rest, when it was closed, with the shares of

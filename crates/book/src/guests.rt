@@ -10,7 +10,7 @@ use crate::share::Share;
 use commons::packet::Seg;
 use commons::seq::Seq;
 use mbuf::packets::{Packets, SLOTS};
-use pool_model::guest::Guest;
+use pool_statement::guest::Guest;
 use std::alloc::{AllocError, Global};
 
 /// The guests of the workers of these shares, by worker and slot: for each place no more than the

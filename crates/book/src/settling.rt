@@ -12,7 +12,7 @@ ghost use Rattle.book.specs.inside.Causes.{cause_of};
 use crate::book::Book;
 use crate::copies;
 use commons::closed::Closed;
-use pool_model::statement::Statement;
+use pool_statement::statement::Statement;
 use snapshot::audit::audit;
 use snapshot::fault::Fault;
 use snapshot::laws;

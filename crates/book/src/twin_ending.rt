@@ -15,7 +15,7 @@ use crate::twin_deposits::full_twin_book;
 use crate::twin_settling::{TwinUnsettled, settle_twin};
 use commons::closed::Closed;
 use commons::refusal::Refusal;
-use pool_model::statement::Statement;
+use pool_statement::statement::Statement;
 use std::alloc::Global;
 
 /// Settles what two whole pools left at rest, when they were closed, with the shares of all their

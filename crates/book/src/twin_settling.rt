@@ -14,7 +14,7 @@ ghost use Rattle.book.specs.inside.Causes.{first_cause_of, second_cause_of};
 use crate::copies::{first_snapshot, second_snapshot};
 use crate::twin_book::TwinBook;
 use commons::closed::Closed;
-use pool_model::statement::Statement;
+use pool_statement::statement::Statement;
 use snapshot::audit::audit;
 use snapshot::fault::Fault;
 use snapshot::laws;

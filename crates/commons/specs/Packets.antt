@@ -38,6 +38,10 @@ holds_of_packet segs = flat_map holds_of_seg segs
 abbrev pub own_of_packet : List Seg → List ℕ
 own_of_packet segs = map (λ seg. seg.elem) segs
 
+-- how many bytes of data the packet has
+abbrev pub pkt_len : List Seg → ℕ
+pkt_len segs = sum_by (λ seg. seg.data_len) segs
+
 -- the holds of what is in a slot
 abbrev pub holds_in_slot : Option (List Seg) → List ℕ
 holds_in_slot None = []

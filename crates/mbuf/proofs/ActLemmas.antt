@@ -11,9 +11,9 @@ use Rattle.mbuf.specs.declared.acts.Act.{Act}
 use Rattle.mbuf.specs.declared.acts.Act.TheVariants as act
 use Rattle.mbuf.specs.declared.acts.Answer.TheVariants as reply
 use Rattle.mbuf.specs.Members.{Member}
-use Rattle.mbuf.specs.PacketRules.{Allocs, Full, NotGot, Fresh, AllocsBulk, TooFull, BulkNotGot, FreshBulk, fresh_seg, free_slot, free_slots}
+use Rattle.mbuf.specs.PacketRules.{Allocs, Full, NotGot, Fresh, AllocsBulk, TooFull, BulkNotGot, FreshBulk, fresh_seg, free_slots}
 use Rattle.mbuf.specs.Desks.{Takes, NoDesk, NoSlot, NotTaken, WasTaken}
-use Rattle.mbuf.specs.Sharing.{Clones, NotClonable, WasGivenUp, WasCloned, clonable}
+use Rattle.mbuf.specs.Sharing.{clonable}
 use Rattle.mbuf.proofs.FreeLemmas.{stood_there}
 use Rattle.mbuf.proofs.OwnLemmas.{free_slot-is}
 
@@ -56,18 +56,6 @@ bulk_there m after n calls slots (FreshBulk es long room got left g c a k) =
 -- a list in place is what it shows
 pub list_is : {A : Type 0} (list : ArrayVec A) (items : List A) → list.items ≡ items → list ≡ record { items = items }
 list_is list items e = rw (← e) refl
-
--- a clone is there
-pub cloned_there : (m after : Member) (p : ℕ) (calls : List Call) (slot : ℕ) →
-    Clones m p calls (Ok slot) after → IsSome (get_or after.table slot None)
-cloned_there m after p calls slot (NotClonable cause f c a k) = absurd cc
-cloned_there m after p calls slot (WasGivenUp segs s f cause left g a k) = absurd cc
-cloned_there m after p calls slot (WasCloned segs s f new left g a k) =
-    let same : slot ≡ s = cc in
-    some_there (get_or after.table slot None) new
-    (ap (λ (x : Member). get_or x.table slot None) k
-    ∙ rw same (get_or-set_same m.table s (Some new) None (free_slot-is m.table s
-    (clonable_free (get_or m.table p None) (free_slot m.table) segs s f)).0))
 
 -- a packet that was taken is there
 pub taken_there : (m after : Member) (desk : ℕ) (calls : List Call) (slot : ℕ) →

@@ -4,8 +4,7 @@ use Rattle.std.proofs.lemmas.Bool.{cond-true, cond-false, lt-ltb, le-ltb, eq-eqb
 use Rattle.commons.specs.declared.packet.Seg.{Seg}
 use Rattle.commons.specs.declared.refusal.Refusal.{Refusal}
 use Rattle.commons.specs.declared.refusal.Refusal.TheVariants.{NoSuchPacket, SamePacket, TooManySegs}
-use Rattle.commons.specs.Packets.{max_segs}
-use Rattle.mbuf.specs.Lengths.{pkt_len}
+use Rattle.commons.specs.Packets.{max_segs, pkt_len}
 use Rattle.mbuf.specs.Members.{Member}
 use Rattle.mbuf.specs.PacketRules.{Chains, Resizes, chain, chain_in, resize_in, resize_to}
 

@@ -7,14 +7,14 @@ use Rattle.commons.specs.declared.packet.Seg.{Seg}
 use Rattle.commons.specs.declared.refusal.Refusal.{Refusal}
 use Rattle.commons.specs.declared.refusal.Refusal.TheVariants.{NoRoom, TooShort}
 use Rattle.commons.specs.Calls.{Call}
-use Rattle.commons.specs.Packets.{max_segs}
+use Rattle.commons.specs.Packets.{max_segs, pkt_len}
 use Rattle.mbuf.specs.Acts.{Performs, Reply, allocated, allocated_bulk, attached as attached_reply, chained, cloned, freed, new_packet, offered, taken, told_both, told_count, told_len, told_segs}
 use Rattle.mbuf.specs.declared.acts.Act.{Act}
 use Rattle.mbuf.specs.declared.acts.Act.TheVariants as act
 use Rattle.mbuf.specs.declared.acts.NewPacket.{NewPacket}
 use Rattle.mbuf.specs.declared.freed.Freed.{Freed}
 use Rattle.mbuf.specs.Desks.{Offers, NothingThere, NotOffered, WasOffered, Takes, NoDesk, NoSlot, NotTaken, WasTaken}
-use Rattle.mbuf.specs.Lengths.{pkt_len, appended, prepended, adjusted, trimmed}
+use Rattle.mbuf.specs.Lengths.{appended, prepended, adjusted, trimmed}
 use Rattle.mbuf.specs.Members.{Member}
 use Rattle.mbuf.specs.PacketRules.{Allocs, Full, NotGot, Fresh, AllocsBulk, TooFull, BulkNotGot, FreshBulk, Frees, NoPacket, WasFreed, Resizes, Chains, chain_in, free_from, free_slots, fresh_seg, of_packet, resize_in, resize_to, stood}
 use Rattle.mbuf.specs.Sharing.{Attaches, NotAttachable, HeldElsewhere, NotRaised, WasAttached, Detaches, NotDetachable, WasDetached, Clones, NotClonable, WasGivenUp, WasCloned, attached}

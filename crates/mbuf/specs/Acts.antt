@@ -6,8 +6,8 @@ use Rattle.commons.specs.declared.refusal.Refusal.TheVariants.{NoSuchPacket, NoR
 use Rattle.commons.specs.Calls.{Call}
 use Rattle.mempool.specs.Caches.{Flushes}
 use Rattle.mempool.specs.declared.put.Put.{Put}
-use Rattle.mbuf.specs.Lengths.{pkt_len, appended, prepended, adjusted, trimmed}
-use Rattle.commons.specs.Packets.{no_seg, own_in_slot}
+use Rattle.mbuf.specs.Lengths.{appended, prepended, adjusted, trimmed}
+use Rattle.commons.specs.Packets.{no_seg, own_in_slot, pkt_len}
 use Rattle.mbuf.specs.Members.{Member, slots}
 use Rattle.mbuf.specs.PacketRules.{Allocs, AllocsBulk, Frees, Resizes, Chains, of_packet}
 use Rattle.mbuf.specs.Desks.{Offers, Takes}

@@ -1,11 +1,7 @@
--- The lengths of a packet, and how calls change them.
-use Rattle.std.specs.Prelude.{ℕ, ◌+◌, ◌-◌, nat_le, if◌then◌else◌, List, length, slice_index_or, slice_set, sum_by, Option, Some, None}
+-- How calls change the lengths of a packet.
+use Rattle.std.specs.Prelude.{ℕ, ◌+◌, ◌-◌, nat_le, if◌then◌else◌, List, length, slice_index_or, slice_set, Option, Some, None}
 use Rattle.commons.specs.Packets.{no_seg}
 use Rattle.commons.specs.declared.packet.Seg.{Seg}
-
--- how many bytes of data the packet has
-abbrev pub pkt_len : List Seg → ℕ
-pkt_len segs = sum_by (λ seg. seg.data_len) segs
 
 -- n bytes more at the segment's end, where its tailroom has them
 abbrev pub grown_behind : ℕ → Seg → Option Seg

@@ -10,8 +10,7 @@ use Rattle.commons.specs.Calls.{Call, Claim, Lower}
 use Rattle.mempool.specs.Caches.{Gets, Puts}
 use Rattle.mempool.specs.declared.put.Put.{Put}
 use Rattle.mempool.specs.declared.put.Put.TheVariants.{Kept, Flushed, PutOff}
-use Rattle.mbuf.specs.Lengths.{pkt_len}
-use Rattle.commons.specs.Packets.{holds_of_packet, max_segs}
+use Rattle.commons.specs.Packets.{holds_of_packet, max_segs, pkt_len}
 use Rattle.mbuf.specs.Members.{Member}
 use Rattle.mbuf.specs.declared.freed.Freed.{Freed}
 

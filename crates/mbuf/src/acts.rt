@@ -110,8 +110,8 @@ fn elem_in(packets: &Packets, slot: Pid) -> u32
     packets.place(slot).unwrap().segs()[0].elem
 }
 
-/// The reply that tells of a length.
-fn told_len<const ROOM: usize>(answer: Result<u32, Refusal>) -> Answer<ROOM>
+/// The answer that tells of a length, or of the refusal.
+pub fn told_len<const ROOM: usize>(answer: Result<u32, Refusal>) -> Answer<ROOM>
     ensures reply { as_reply result ≡ len_reply answer }
     ensures none { new_elements (as_reply result) ≡ [] }
 {
@@ -205,14 +205,16 @@ fn chain<C: Commons, const ROOM: usize>(
     }
 }
 
-/// The elements of the packet in a slot, in the order of its segments.
-fn elems_in(packets: &Packets, slot: Pid) -> ArrayVec<u32, MAX_SEGS>
-    requires { IsSome (slice_index_or packets.now.table slot None) }
+/// The elements of the packet in a slot, in the order of its segments; none where no packet stands
+/// there.
+pub fn elems_in(packets: &Packets, slot: Pid) -> ArrayVec<u32, MAX_SEGS>
     ensures { result.items ≡ own_in_slot (slice_index_or packets.now.table slot None) }
 {
     let mut elems = ArrayVec::new();
-    for seg in packets.place(slot).unwrap().segs() {
-        elems.push(seg.elem);
+    if let Some(packet) = packets.place(slot) {
+        for seg in packet.segs() {
+            elems.push(seg.elem);
+        }
     }
     elems
 }

@@ -1,9 +1,9 @@
 //! How long a packet is, and how its lengths change.
 
 ghost use Rattle.std.specs.Prelude.{◌≡◌, ◌<◌, None, Some, length, false, IfSome, cond};
-ghost use Rattle.commons.specs.Packets.{HasItsData};
+ghost use Rattle.commons.specs.Packets.{HasItsData, pkt_len as len_of};
 ghost use Rattle.mbuf.specs.inside.Changes.{resized, not_resized};
-ghost use Rattle.mbuf.specs.Lengths.{pkt_len as len_of, appended, prepended, adjusted, trimmed, grown_behind, grown_in_front, cut_in_front, cut_behind, with_seg};
+ghost use Rattle.mbuf.specs.Lengths.{appended, prepended, adjusted, trimmed, grown_behind, grown_in_front, cut_in_front, cut_behind, with_seg};
 
 pub use commons::change::Change;
 use commons::packet::{Packet, Seg};

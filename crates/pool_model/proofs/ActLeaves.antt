@@ -4,13 +4,13 @@ use Rattle.std.proofs.lemmas.List.Sums.{get_or-le-sum_by, sum_by-set}
 use Rattle.std.proofs.lemmas.Bool.{cases_Bool, leb-true, and_parts}
 use Rattle.commons.specs.declared.refusal.Refusal.{Refusal}
 use Rattle.commons.specs.declared.refusal.Refusal.TheVariants.{NoRoom, StrangerShare, TooShort}
-use Rattle.commons.specs.Packets.{held_in}
+use Rattle.commons.specs.Packets.{held_in, pkt_len}
 use Rattle.mbuf.specs.declared.acts.Act.{Act}
 use Rattle.mbuf.specs.declared.acts.Act.TheVariants.{Alloc, AllocBulk, Free, Append, Prepend, Adj, Trim, Chain, Attach, Detach, ClonePacket, Offer, Take, CountOf, PktLen, NbSegs, Flush}
 use Rattle.mbuf.specs.declared.acts.Answer.TheVariants.{Refused}
 use Rattle.mbuf.specs.Acts.{Reply, told_count, told_len, told_segs}
 use Rattle.mbuf.specs.Fresh.{new_elements}
-use Rattle.mbuf.specs.Lengths.{pkt_len, appended, prepended, adjusted, trimmed}
+use Rattle.mbuf.specs.Lengths.{appended, prepended, adjusted, trimmed}
 use Rattle.mbuf.specs.Members.{Member}
 use Rattle.mbuf.specs.PacketRules.{free_slot, of_packet}
 use Rattle.mbuf.specs.Sharing.{clonable, detachable, first_seg, pair_in}

@@ -2,12 +2,12 @@
 use Rattle.std.proofs.Common.{ℕ, ◌≡◌, ◌<◌, nat_le, inl, inr, List, length, get_or, set, get_or-set_same, Option, Some, None, refl, sym, ◌∙◌, ap}
 use Rattle.std.proofs.lemmas.Bool.{cases_Bool, leb-false, lt-leb}
 use Rattle.std.proofs.lemmas.List.{set-set, set-get_or}
+use Rattle.commons.specs.Packets.{pkt_len}
 use Rattle.commons.specs.declared.packet.Seg.{Seg}
 use Rattle.commons.specs.declared.refusal.Refusal.TheVariants.{DeskTaken, PacketsFull}
 use Rattle.commons.proofs.PacketBags.{stands_within}
 use Rattle.mbuf.specs.Acts.{Reply}
 use Rattle.mbuf.specs.declared.acts.Answer.TheVariants.{Offered, Refused, Taken}
-use Rattle.mbuf.specs.Lengths.{pkt_len}
 use Rattle.mbuf.specs.Members.{Member}
 use Rattle.mbuf.specs.PacketRules.{free_slot}
 use Rattle.pool_model.specs.Pool.{Shared}

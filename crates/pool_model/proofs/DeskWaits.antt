@@ -5,6 +5,7 @@ use Rattle.std.proofs.lemmas.Bool.Decides.{nat_tests}
 use Rattle.std.proofs.lemmas.List.Elements.{All-head, All-tail}
 use Rattle.commons.proofs.PacketBags.{stands_within}
 use Rattle.commons.proofs.Sames.{some-is}
+use Rattle.commons.specs.Packets.{pkt_len}
 use Rattle.commons.specs.declared.packet.Seg.{Seg}
 use Rattle.commons.specs.declared.refusal.Refusal.TheVariants.{DeskTaken, PacketsFull}
 use Rattle.mbuf.proofs.OwnLemmas.{free_slot-is}
@@ -12,7 +13,6 @@ use Rattle.mbuf.specs.Acts.{Reply}
 use Rattle.mbuf.specs.declared.acts.Act.{Act}
 use Rattle.mbuf.specs.declared.acts.Act.TheVariants.{Offer, Take}
 use Rattle.mbuf.specs.declared.acts.Answer.TheVariants.{Offered, Refused, Taken}
-use Rattle.mbuf.specs.Lengths.{pkt_len}
 use Rattle.mbuf.specs.Members.{Member}
 use Rattle.mbuf.specs.PacketRules.{free_slot}
 use Rattle.pool_model.specs.Pool.{Shared, Pool, nobody, with_member}

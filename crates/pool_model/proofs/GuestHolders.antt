@@ -10,10 +10,10 @@ use Rattle.commons.specs.Bag.{one}
 use Rattle.commons.specs.declared.packet.Seg.{Seg}
 use Rattle.commons.specs.Packets.{held_in}
 use Rattle.mbuf.specs.Members.{Member}
-use Rattle.pool_model.specs.declared.guest.Guest.{Guest}
-use Rattle.pool_model.specs.declared.statement.DeskPacket.{DeskPacket}
-use Rattle.pool_model.specs.declared.statement.Holder.{Holder}
-use Rattle.pool_model.specs.declared.statement.Holder.TheVariants.{Worker}
+use Rattle.pool_statement.specs.declared.guest.Guest.{Guest}
+use Rattle.pool_statement.specs.declared.statement.DeskPacket.{DeskPacket}
+use Rattle.pool_statement.specs.declared.statement.Holder.{Holder}
+use Rattle.pool_statement.specs.declared.statement.Holder.TheVariants.{Worker}
 use Rattle.commons.specs.Packets.{holds_of_packet}
 use Rattle.commons.specs.Bag.{bag}
 use Rattle.pool_model.specs.Guests.{AreOfWorkers, guest_holds, guests_of, held_with, holders_with, workers_with}

@@ -11,8 +11,8 @@ use Rattle.commons.specs.Bag.{bag}
 use Rattle.commons.specs.declared.packet.Seg.{Seg}
 use Rattle.commons.proofs.Bags.{bag-append}
 use Rattle.mbuf.specs.Members.{Member}
-use Rattle.pool_model.specs.declared.guest.Guest.{Guest}
-use Rattle.pool_model.specs.declared.statement.Held.{Held}
+use Rattle.pool_statement.specs.declared.guest.Guest.{Guest}
+use Rattle.pool_statement.specs.declared.statement.Held.{Held}
 use Rattle.pool_model.specs.Guests.{AreOfWorkers, ListsEachOnceWith, elements_with, entry_with, guest_holds, guests_of, held_with, statement_with}
 use Rattle.pool_model.specs.Pool.{Pool, own_of}
 use Rattle.pool_model.specs.Statements.{IsNotAfter, desk_holds, is_desk, is_worker, packet_holds, times_listed, worker_holds}

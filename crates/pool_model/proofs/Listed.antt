@@ -12,10 +12,10 @@ use Rattle.commons.specs.Bag.{bag}
 use Rattle.commons.specs.declared.packet.Seg.{Seg}
 use Rattle.commons.proofs.Bags.{bag-nil, bag-cons, bag-append, length-is}
 use Rattle.commons.proofs.Places.{one-apart}
-use Rattle.pool_model.specs.declared.statement.DeskPacket.{DeskPacket}
-use Rattle.pool_model.specs.declared.statement.PlacedPacket.{PlacedPacket}
-use Rattle.pool_model.specs.declared.statement.Holder.{Holder}
-use Rattle.pool_model.specs.declared.statement.Holder.TheVariants.{Worker, Desk}
+use Rattle.pool_statement.specs.declared.statement.DeskPacket.{DeskPacket}
+use Rattle.pool_statement.specs.declared.statement.PlacedPacket.{PlacedPacket}
+use Rattle.pool_statement.specs.declared.statement.Holder.{Holder}
+use Rattle.pool_statement.specs.declared.statement.Holder.TheVariants.{Worker, Desk}
 use Rattle.commons.specs.Packets.{holds_of_packet, own_of_packet, holds_in_slot, own_in_slot, held_in, own_in}
 use Rattle.mbuf.specs.Members.{Member}
 use Rattle.pool_model.specs.Pool.{held_by, own_by}

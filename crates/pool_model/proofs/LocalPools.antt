@@ -7,10 +7,10 @@ use Rattle.commons.specs.Bag.{bag}
 use Rattle.commons.specs.declared.packet.Seg.{Seg}
 use Rattle.commons.specs.Packets.{held_in, holds_in_slot, own_in, own_in_slot, own_of_packet}
 use Rattle.mbuf.specs.Members.{Member}
-use Rattle.pool_model.specs.declared.guest.Guest.{Guest}
-use Rattle.pool_model.specs.declared.statement.DeskPacket.{DeskPacket}
-use Rattle.pool_model.specs.declared.statement.PlacedPacket.{PlacedPacket}
-use Rattle.pool_model.specs.declared.statement.Statement.{Statement}
+use Rattle.pool_statement.specs.declared.guest.Guest.{Guest}
+use Rattle.pool_statement.specs.declared.statement.DeskPacket.{DeskPacket}
+use Rattle.pool_statement.specs.declared.statement.PlacedPacket.{PlacedPacket}
+use Rattle.pool_statement.specs.declared.statement.Statement.{Statement}
 use Rattle.pool_model.specs.Guests.{local_member, local_on_desk, local_packet, local_place, local_placed, local_pool, local_statement, local_table, statement_with}
 use Rattle.pool_model.specs.Pool.{Pool, held_by, own_by, own_of}
 use Rattle.pool_model.specs.Statements.{desks_from, packets_from, packets_of}

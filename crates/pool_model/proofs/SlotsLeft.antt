@@ -5,11 +5,11 @@ use Rattle.std.proofs.lemmas.List.Elements.{All-nil}
 use Rattle.commons.specs.declared.packet.Seg.{Seg}
 use Rattle.commons.specs.declared.refusal.Refusal.{Refusal}
 use Rattle.commons.specs.declared.refusal.Refusal.TheVariants.{NoRoom, TooShort}
-use Rattle.commons.specs.Packets.{max_segs}
+use Rattle.commons.specs.Packets.{max_segs, pkt_len}
 use Rattle.mbuf.specs.Acts.{Reply}
 use Rattle.mbuf.specs.declared.acts.Act.{Act}
 use Rattle.mbuf.specs.declared.acts.Act.TheVariants.{Alloc, AllocBulk, Free, Append, Prepend, Adj, Trim, Chain, Attach, Detach, ClonePacket, Offer, Take, CountOf, PktLen, NbSegs, Flush}
-use Rattle.mbuf.specs.Lengths.{pkt_len, appended, prepended, adjusted, trimmed}
+use Rattle.mbuf.specs.Lengths.{appended, prepended, adjusted, trimmed}
 use Rattle.mbuf.specs.Members.{Member}
 use Rattle.mbuf.specs.PacketRules.{chain_in, free_slot, free_slots, fresh_seg, of_packet, resize_in, resize_to}
 use Rattle.mbuf.specs.Sharing.{buffer_of, clonable, detachable, first_seg, pair_in}

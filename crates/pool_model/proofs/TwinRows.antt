@@ -9,7 +9,7 @@ use Rattle.mbuf.specs.declared.acts.Act.TheVariants.{Alloc, Append, Chain, Count
 use Rattle.mbuf.specs.declared.acts.Answer.TheVariants as reply
 use Rattle.mbuf.specs.Acts.{Reply}
 use Rattle.mbuf.specs.declared.freed.Freed.{Freed}
-use Rattle.pool_model.specs.declared.statement.Holder.TheVariants.{Worker}
+use Rattle.pool_statement.specs.declared.statement.Holder.TheVariants.{Worker}
 use Rattle.pool_model.specs.TwinModel.{TwinPool, first_statement, new_twin_pool, perform_twin, second_statement}
 use Rattle.twin_acts.specs.declared.acts.TwinAct.{TwinAct}
 use Rattle.twin_acts.specs.declared.acts.TwinAct.TheVariants.{OnFirst, CloneInto, CountClone, FreeClone}

@@ -9,8 +9,8 @@ use Rattle.mbuf.specs.declared.acts.Act.TheVariants.{Alloc, AllocBulk, Free, App
 use Rattle.mbuf.specs.Acts.{chained, Reply}
 use Rattle.mbuf.specs.declared.acts.Answer.TheVariants as reply
 use Rattle.mbuf.specs.Acts.{chained, allocated_bulk, told_len, told_segs}
-use Rattle.mbuf.specs.Lengths.{pkt_len, appended, prepended, adjusted, trimmed}
-use Rattle.commons.specs.Packets.{holds_in_slot}
+use Rattle.mbuf.specs.Lengths.{appended, prepended, adjusted, trimmed}
+use Rattle.commons.specs.Packets.{holds_in_slot, pkt_len}
 use Rattle.mbuf.specs.Members.{Member}
 use Rattle.mbuf.specs.PacketRules.{chain, resize, fresh_seg, free_slot, free_slots, stood, freed_nothing, of_packet}
 use Rattle.pool_model.specs.Pool.{Shared, Pool, held_of, member_at, with_member}

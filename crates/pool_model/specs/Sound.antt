@@ -4,9 +4,9 @@ use Rattle.std.specs.List.{Contains}
 use Rattle.commons.specs.declared.limits.Limits.{Limits}
 use Rattle.commons.specs.declared.packet.Seg.{Seg}
 use Rattle.commons.specs.Packets.{IsPacket}
-use Rattle.pool_model.specs.declared.statement.DeskPacket.{DeskPacket}
-use Rattle.pool_model.specs.declared.statement.PlacedPacket.{PlacedPacket}
-use Rattle.pool_model.specs.declared.statement.Statement.{Statement}
+use Rattle.pool_statement.specs.declared.statement.DeskPacket.{DeskPacket}
+use Rattle.pool_statement.specs.declared.statement.PlacedPacket.{PlacedPacket}
+use Rattle.pool_statement.specs.declared.statement.Statement.{Statement}
 use Rattle.pool_model.specs.Pool.{Pool, held_of}
 use Rattle.pool_model.specs.Standing.{IsInSlot, IsOfAPacket, IsOnDesk}
 

@@ -2,12 +2,12 @@
 use Rattle.std.specs.Prelude.{ℕ, ◌≡◌, ◌≢◌, ◌+◌, ◌-◌, ◌≤◌, List, length, slice_index_or, slice_set, Some, None}
 use Rattle.std.specs.List.{Contains}
 use Rattle.commons.specs.Bag.{bag}
+use Rattle.commons.specs.Packets.{pkt_len}
 use Rattle.commons.specs.declared.packet.Seg.{Seg}
 use Rattle.mbuf.specs.Acts.{Reply}
 use Rattle.mbuf.specs.declared.acts.Act.{Act}
 use Rattle.mbuf.specs.declared.acts.Act.TheVariants.{ClonePacket}
 use Rattle.mbuf.specs.declared.acts.Answer.TheVariants.{Taken}
-use Rattle.mbuf.specs.Lengths.{pkt_len}
 use Rattle.mbuf.specs.Members.{Member}
 use Rattle.pool_model.specs.Pool.{Pool, member_at, own_of}
 

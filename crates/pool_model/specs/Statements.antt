@@ -5,12 +5,12 @@ use Rattle.std.specs.List.Sorted.{IsStrictlyIncreasing}
 use Rattle.commons.specs.Bag.{bag}
 use Rattle.commons.specs.declared.limits.Limits.{Limits}
 use Rattle.commons.specs.declared.packet.Seg.{Seg}
-use Rattle.pool_model.specs.declared.statement.Statement.{Statement}
-use Rattle.pool_model.specs.declared.statement.DeskPacket.{DeskPacket}
-use Rattle.pool_model.specs.declared.statement.PlacedPacket.{PlacedPacket}
-use Rattle.pool_model.specs.declared.statement.Held.{Held}
-use Rattle.pool_model.specs.declared.statement.Holder.{Holder}
-use Rattle.pool_model.specs.declared.statement.Holder.TheVariants.{Worker, Desk}
+use Rattle.pool_statement.specs.declared.statement.Statement.{Statement}
+use Rattle.pool_statement.specs.declared.statement.DeskPacket.{DeskPacket}
+use Rattle.pool_statement.specs.declared.statement.PlacedPacket.{PlacedPacket}
+use Rattle.pool_statement.specs.declared.statement.Held.{Held}
+use Rattle.pool_statement.specs.declared.statement.Holder.{Holder}
+use Rattle.pool_statement.specs.declared.statement.Holder.TheVariants.{Worker, Desk}
 use Rattle.commons.specs.Packets.{holds_of_packet, own_of_packet, holds_in_slot, held_in}
 use Rattle.mbuf.specs.Members.{Member, slots}
 use Rattle.pool_model.specs.Pool.{Pool, held_of}

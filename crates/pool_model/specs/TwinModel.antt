@@ -22,7 +22,7 @@ use Rattle.mbuf.specs.Foreign.{bases_in, bases_of_packet}
 use Rattle.pool_model.specs.Guests.{guests_by, statement_with}
 use Rattle.pool_model.specs.PacketModel.{held_elsewhere, member_act, without_packet}
 use Rattle.pool_model.specs.Pool.{Pool, Shared, held_of, member_at, new_pool, own_by, with_member}
-use Rattle.pool_model.specs.declared.statement.Statement.{Statement}
+use Rattle.pool_statement.specs.declared.statement.Statement.{Statement}
 use Rattle.twin_acts.specs.declared.acts.TwinAct.{TwinAct}
 use Rattle.twin_acts.specs.declared.acts.TwinAct.TheVariants.{OnFirst, CloneInto, AdjClone, TrimClone, CountClone, FreeClone}
 

@@ -2,7 +2,4 @@
 //! both. A hold is one count of an mbuf's `refcnt`; the common list is the stack of `rte_mempool`.
 #![tactic(auto)]
 
-pub mod guest;
 pub mod laws;
-pub mod settled;
-pub mod statement;

@@ -5,7 +5,7 @@ ghost use Rattle.pool_picture.specs.Picture.{each_in_use, held_circle, sum_box, 
 
 use crate::packets::{write_desks, write_packets};
 use element_text::write_number;
-use pool_model::statement::{Held, Statement};
+use pool_statement::statement::{Held, Statement};
 use std::alloc::AllocError;
 
 /// What is in use, each of it.

@@ -13,7 +13,7 @@ ghost use Rattle.pool_picture.specs.Picture.{dot_of, most_shown, places_text};
 use boxes::{write_caches, write_stack};
 use commons::refusal::Refusal;
 use in_use::{write_each, write_sums};
-use pool_model::statement::Statement;
+use pool_statement::statement::Statement;
 use std::alloc::{AllocError, Global};
 
 /// The most elements of a pool whose picture shows each of them.

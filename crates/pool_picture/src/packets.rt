@@ -6,7 +6,7 @@ ghost use Rattle.pool_picture.specs.Picture.{base_arrow, desk_part, label_of, na
 
 use commons::packet::Seg;
 use element_text::write_number;
-use pool_model::statement::{DeskPacket, PlacedPacket};
+use pool_statement::statement::{DeskPacket, PlacedPacket};
 use std::alloc::AllocError;
 
 /// Who has a packet.

@@ -10,8 +10,8 @@ use Rattle.pool_model.specs.PacketModel.{after_acts}
 use Rattle.pool_model.specs.Pool.{new_pool}
 use Rattle.pool_model.specs.Sound.{ListsOnlyPackets, ListsSoundPackets}
 use Rattle.pool_model.specs.Statements.{statement_of}
-use Rattle.pool_model.specs.declared.settled.Settled.{Settled}
-use Rattle.pool_model.specs.declared.statement.Statement.{Statement}
+use Rattle.pool_statement.specs.declared.settled.Settled.{Settled}
+use Rattle.pool_statement.specs.declared.statement.Statement.{Statement}
 use Rattle.share_book.specs.Locked.{AreLeftBy}
 use Rattle.script.specs.Running.{EndByActs, EndsByActs, LeftOnWords, ReachedByActs}
 use Rattle.script.specs.Settling.{ListsOnlyPacketsInEach, ListsPacketsInEach, ListsSoundInEach, of_one_or_two}

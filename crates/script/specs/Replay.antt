@@ -19,7 +19,7 @@ use Rattle.pool_model.specs.Pool.{Pool, new_pool}
 use Rattle.pool_model.specs.PacketModel.{perform}
 use Rattle.pool_model.specs.Statements.{statement_of}
 use Rattle.pool_model.specs.TwinModel.{TwinPool, first_statement, new_twin_pool, perform_twin, second_statement}
-use Rattle.pool_model.specs.declared.settled.Settled.{Settled}
+use Rattle.pool_statement.specs.declared.settled.Settled.{Settled}
 use Rattle.script.specs.declared.names.Stand.{Stand}
 use Rattle.script.specs.declared.names.Stand.TheVariants.{Packet, Clone}
 use Rattle.twin_acts.specs.declared.acts.TwinAct.{TwinAct}

@@ -7,8 +7,8 @@ use Rattle.pool_model.specs.PacketModel.{after_acts}
 use Rattle.pool_model.specs.Pool.{new_pool}
 use Rattle.pool_model.specs.Statements.{statement_of}
 use Rattle.pool_model.specs.TwinModel.{after_twin_acts, first_statement, new_twin_pool, second_statement}
-use Rattle.pool_model.specs.declared.settled.Settled.{Settled}
-use Rattle.pool_model.specs.declared.statement.Statement.{Statement}
+use Rattle.pool_statement.specs.declared.settled.Settled.{Settled}
+use Rattle.pool_statement.specs.declared.statement.Statement.{Statement}
 use Rattle.script.specs.Settling.{OfPools}
 use Rattle.script.specs.declared.threaded.Grounds.{Grounds}
 use Rattle.script.specs.declared.threaded.Grounds.TheVariants.{Words, Locked}

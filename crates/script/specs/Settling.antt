@@ -4,8 +4,8 @@ use Rattle.commons.specs.declared.limits.Limits.{Limits}
 use Rattle.pool_model.specs.Guests.{ListsEachOnceWith, guests_listed, local_statement}
 use Rattle.pool_model.specs.Sound.{ListsOnlyPackets, ListsSoundPackets}
 use Rattle.pool_model.specs.Statements.{ListsEachOnce, PlacesEachOnce}
-use Rattle.pool_model.specs.declared.settled.Settled.{Settled}
-use Rattle.pool_model.specs.declared.statement.Statement.{Statement}
+use Rattle.pool_statement.specs.declared.settled.Settled.{Settled}
+use Rattle.pool_statement.specs.declared.statement.Statement.{Statement}
 use Rattle.script_text.specs.declared.lines.Pools.{Pools}
 use Rattle.book.specs.Listing.{ListsPackets}
 

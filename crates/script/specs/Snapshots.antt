@@ -1,6 +1,6 @@
 -- The snapshots that a script's pools leave: what audits of these read. A line of JSON for each.
 use Rattle.std.specs.Prelude.{ℕ, ◌≡◌, ◌++◌, List, [], Option, None, Some, codes, option_map}
-use Rattle.pool_model.specs.declared.settled.Settled.{Settled}
+use Rattle.pool_statement.specs.declared.settled.Settled.{Settled}
 use Rattle.script.specs.Replay.{One, Stock, Two, end_of, new_run, settled_of}
 use Rattle.script.specs.Running.{LeftOnWords, ReachedByActs}
 use Rattle.script.specs.declared.snapshots.Snapshots.{Snapshots}

@@ -10,7 +10,7 @@ ghost use Rattle.script.specs.inside.Standing.{fresh_run};
 use crate::playing::play_all;
 use crate::sites::Sites;
 use commons::refusal::Refusal;
-use pool_model::settled::Settled;
+use pool_statement::settled::Settled;
 use script_text::commands::{Line, Script};
 use script_text::parse;
 use statement_text::statement_json;

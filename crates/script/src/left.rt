@@ -12,7 +12,7 @@ use book::twin_ending::settled_twins;
 use commons::closed::Closed;
 use commons::limits::Limits;
 use commons::refusal::Refusal;
-use pool_model::settled::Settled;
+use pool_statement::settled::Settled;
 use share_book::{ClosedTwin, Share};
 use std::alloc::Global;
 

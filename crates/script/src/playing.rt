@@ -11,7 +11,7 @@ use crate::names::{Names, Stand};
 use crate::sites::Sites;
 use commons::refusal::Refusal;
 use mbuf::acts::{Answer, NewPacket, Reply};
-use pool_model::settled::Settled;
+use pool_statement::settled::Settled;
 use script_text::commands::{Command, Line, Name, Script};
 use std::alloc::{AllocError, Global};
 

@@ -11,7 +11,7 @@ ghost use Rattle.script.specs.Settling.{ListsEachPoolOnce, ListsPacketsInEach, L
 use crate::gate::OpenGate;
 use crate::threaded::{Grounds, run_lost, run_threads};
 use commons::refusal::Refusal;
-use pool_model::settled::Settled;
+use pool_statement::settled::Settled;
 use script_text::parse;
 use std::alloc::Global;
 use std::sync::Wait;

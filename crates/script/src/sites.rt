@@ -14,7 +14,7 @@ use crate::left::Left;
 use crate::snapshots::Snapshots;
 use commons::refusal::Refusal;
 use mbuf::acts::Answer;
-use pool_model::settled::Settled;
+use pool_statement::settled::Settled;
 use script_text::commands::Pools;
 use share_book::site_pool::SitePool;
 use share_book::twin_site::TwinSite;

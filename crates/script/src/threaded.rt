@@ -12,7 +12,7 @@ use crate::left::Left;
 use crate::{on_words, twins_on_words, twins_under_lock, under_lock};
 use commons::refusal::Refusal;
 use pool_model::laws;
-use pool_model::settled::Settled;
+use pool_statement::settled::Settled;
 use script_text::commands::Script;
 use std::alloc::Global;
 use std::sync::Wait;

@@ -14,7 +14,7 @@ use Rattle.commons.specs.declared.place.Place.TheVariants.{Common, Hand, Held}
 use Rattle.commons.specs.Lists.{Lists, IsTable, hand_of, header_of, held_count, in_common, in_hand, nowhere, place_of, weight}
 use Rattle.commons.specs.Packets.{own_in}
 use Rattle.mbuf.specs.Members.{Member}
-use Rattle.pool_model.specs.declared.guest.Guest.{Guest}
+use Rattle.pool_statement.specs.declared.guest.Guest.{Guest}
 use Rattle.pool_model.specs.Guests.{AreOfWorkers}
 use Rattle.pool_model.proofs.Listed.{sum_by-map}
 use Rattle.snapshot.specs.Closing.{share_of, snapshot_of}

@@ -5,7 +5,7 @@ use Rattle.commons.specs.declared.limits.Limits.{Limits}
 use Rattle.commons.specs.declared.packet.Seg.{Seg}
 use Rattle.commons.specs.Lists.{Lists}
 use Rattle.mbuf.specs.Members.{Member}
-use Rattle.pool_model.specs.declared.guest.Guest.{Guest}
+use Rattle.pool_statement.specs.declared.guest.Guest.{Guest}
 use Rattle.pool_model.specs.Guests.{statement_with}
 use Rattle.pool_model.specs.Pool.{Pool}
 use Rattle.snapshot.specs.Closing.{share_of}

@@ -17,7 +17,7 @@ use book::share::Share;
 use commons::closed::Closed;
 use commons::limits::Limits;
 use commons::refusal::Refusal;
-use pool_model::statement::Statement;
+use pool_statement::statement::Statement;
 use std::alloc::Global;
 
 /// Closes a pool and settles it with the shares of all its workers. The statement is that of the

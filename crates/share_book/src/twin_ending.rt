@@ -13,7 +13,7 @@ ghost use Rattle.share_book.specs.TwinSites.{first_snapshot, second_snapshot};
 use crate::twin_site::TwinSite;
 use book::twin_ending::settled_twins;
 use commons::refusal::Refusal;
-use pool_model::statement::Statement;
+use pool_statement::statement::Statement;
 use std::alloc::Global;
 
 /// Closes two pools and settles them with the shares of all their workers: whatever was done with

@@ -13,8 +13,8 @@ use Rattle.commons.proofs.Bags.{bag-head, bag-nil, one-same}
 use Rattle.commons.proofs.Places.{one-apart}
 use Rattle.pool_model.specs.Guests.{local_packet, local_place, local_seg, local_table}
 use Rattle.pool_model.proofs.LocalPools.{local_table-cons, local_table-nil}
-use Rattle.pool_model.specs.declared.statement.Holder.{Holder}
-use Rattle.pool_model.specs.declared.statement.Holder.TheVariants.{Worker, Desk}
+use Rattle.pool_statement.specs.declared.statement.Holder.{Holder}
+use Rattle.pool_statement.specs.declared.statement.Holder.TheVariants.{Worker, Desk}
 use Rattle.pool_model.specs.Statements.{desks_of}
 use Rattle.snapshot.specs.declared.snapshot.ShareData.{ShareData}
 use Rattle.snapshot.specs.inside.Adding.{AreAdded, lists_of, share_holds, workers_in}

@@ -1,8 +1,8 @@
 -- A snapshot of one pool alone.
 use Rattle.std.proofs.Common.{ℕ, ◌≡◌, Bool, false, List, [], sym, subst, ap, ◌∙◌}
 use Rattle.std.specs.Prelude.{◌↔◌}
-use Rattle.pool_model.specs.declared.guest.Guest.{Guest}
-use Rattle.pool_model.specs.declared.statement.Statement.{Statement}
+use Rattle.pool_statement.specs.declared.guest.Guest.{Guest}
+use Rattle.pool_statement.specs.declared.statement.Statement.{Statement}
 use Rattle.pool_model.specs.Guests.{ListsEachOnceWith, held_with, local_pool, local_statement, statement_with}
 use Rattle.pool_model.specs.Pool.{held_of}
 use Rattle.pool_model.specs.Statements.{ListsEachOnce, statement_of}

@@ -17,7 +17,7 @@ use Rattle.commons.proofs.Bags.{length-le}
 use Rattle.commons.proofs.Tables.{all_below}
 use Rattle.mbuf.specs.declared.acts.Act.{Act}
 use Rattle.mbuf.specs.Members.{Member, slots}
-use Rattle.pool_model.specs.declared.guest.Guest.{Guest}
+use Rattle.pool_statement.specs.declared.guest.Guest.{Guest}
 use Rattle.pool_model.specs.PacketModel.{after_acts}
 use Rattle.pool_model.specs.Pool.{Pool, held_by, held_of, new_pool}
 use Rattle.pool_model.specs.Statements.{statement_of}

@@ -12,7 +12,7 @@ use Rattle.commons.specs.Packets.{hold_of, holds_of_packet, holds_of_seg, holds_
 use Rattle.commons.specs.declared.packet.Seg.{Seg}
 use Rattle.commons.proofs.Bags.{bag-nil, bag-append, bag-single, length-le}
 use Rattle.commons.proofs.PacketBags.{bag-seg, own_in-held}
-use Rattle.pool_model.specs.declared.guest.Guest.{Guest}
+use Rattle.pool_statement.specs.declared.guest.Guest.{Guest}
 use Rattle.pool_model.specs.Guests.{guest_holds, local_packet, local_place, local_seg, local_table}
 use Rattle.pool_model.proofs.Listed.{bag-flat_map}
 use Rattle.pool_model.proofs.LocalPools.{held-local, own_in-local}

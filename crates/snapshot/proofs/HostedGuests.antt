@@ -8,7 +8,7 @@ use Rattle.std.proofs.lemmas.List.{get_or-map, get_or-replicate, get_or-set_othe
 use Rattle.std.proofs.lemmas.List.Sums.{sum_by-cons, sum_by_more}
 use Rattle.commons.specs.Bag.{bag, one}
 use Rattle.commons.proofs.Bags.{bag-append, bag-nil, bag-single}
-use Rattle.pool_model.specs.declared.guest.Guest.{Guest}
+use Rattle.pool_statement.specs.declared.guest.Guest.{Guest}
 use Rattle.pool_model.specs.Guests.{guest_holds, guests_of}
 use Rattle.snapshot.specs.inside.Adding.{AreByWorker, lists_of}
 

@@ -15,9 +15,9 @@ use Rattle.commons.specs.Packets.{held_in}
 use Rattle.commons.specs.declared.packet.Seg.{Seg}
 use Rattle.commons.proofs.Bags.{length-le}
 use Rattle.mbuf.specs.Members.{Member}
-use Rattle.pool_model.specs.declared.statement.Holder.{Holder}
-use Rattle.pool_model.specs.declared.statement.Holder.TheVariants.{Worker}
-use Rattle.pool_model.specs.declared.guest.Guest.{Guest}
+use Rattle.pool_statement.specs.declared.statement.Holder.{Holder}
+use Rattle.pool_statement.specs.declared.statement.Holder.TheVariants.{Worker}
+use Rattle.pool_statement.specs.declared.guest.Guest.{Guest}
 use Rattle.pool_model.specs.Guests.{guest_holds, guests_of, local_member, local_table, workers_with}
 use Rattle.pool_model.specs.Statements.{desks_of}
 use Rattle.pool_model.proofs.GuestHolders.{length-holders_with}

@@ -17,8 +17,8 @@ use Rattle.pool_model.proofs.Listed.{sum_by-map}
 use Rattle.pool_model.proofs.LocalPools.{cached-local, length-local, local-available, local-in_use, local-population, local-common, local-in_order, local-limits, own_of-local, statement-local}
 use Rattle.pool_model.proofs.Numbered.{AreInOrder}
 use Rattle.pool_model.proofs.Placed.{IsInTable, IsOfWorkers, OnDesks, desks_from-desks, desks_from-order, packets-in_tables, packets-order, packets-workers}
-use Rattle.pool_model.specs.declared.statement.PlacedPacket.{PlacedPacket}
-use Rattle.pool_model.specs.declared.statement.Statement.{Statement}
+use Rattle.pool_statement.specs.declared.statement.PlacedPacket.{PlacedPacket}
+use Rattle.pool_statement.specs.declared.statement.Statement.{Statement}
 use Rattle.pool_model.specs.Statements.{PlacesEachOnce, desks_from, packets_of}
 use Rattle.snapshot.specs.declared.snapshot.ShareData.{ShareData}
 use Rattle.snapshot.specs.declared.snapshot.Snapshot.{Snapshot}

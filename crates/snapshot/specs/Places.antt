@@ -1,8 +1,8 @@
 -- Where the packets of a statement stand in a snapshot.
 use Rattle.std.specs.Prelude.{◌≡◌, ◌<◌, ◌≤◌, All, AllPairs, Contains, None, Some, length, slice_index_or}
 use Rattle.pool_model.specs.Statements.{StandsBefore}
-use Rattle.pool_model.specs.declared.statement.PlacedPacket.{PlacedPacket}
-use Rattle.pool_model.specs.declared.statement.Statement.{Statement}
+use Rattle.pool_statement.specs.declared.statement.PlacedPacket.{PlacedPacket}
+use Rattle.pool_statement.specs.declared.statement.Statement.{Statement}
 use Rattle.snapshot.specs.declared.snapshot.ShareData.{ShareData}
 use Rattle.snapshot.specs.declared.snapshot.Snapshot.{Snapshot}
 

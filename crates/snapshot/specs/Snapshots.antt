@@ -7,7 +7,7 @@ use Rattle.commons.specs.declared.packet.Seg.{Seg}
 use Rattle.mbuf.specs.Members.{Member, slots}
 use Rattle.pool_model.specs.Guests.{AreOfWorkers, ListsEachOnceWith, held_with, local_pool, local_statement, statement_with}
 use Rattle.pool_model.specs.Pool.{Pool}
-use Rattle.pool_model.specs.declared.statement.Statement.{Statement}
+use Rattle.pool_statement.specs.declared.statement.Statement.{Statement}
 use Rattle.snapshot.specs.declared.snapshot.ShareData.{ShareData}
 use Rattle.snapshot.specs.declared.snapshot.Snapshot.{Snapshot}
 

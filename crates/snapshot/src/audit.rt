@@ -11,7 +11,7 @@ ghost use Rattle.snapshot.specs.Snapshots.{HasSlots, IsLawful, ListsItsElements,
 use crate::fault::Fault;
 use crate::snapshot::Snapshot;
 use crate::{elements, laws, packets, placing, shape, tally, walking};
-use pool_model::statement::Statement;
+use pool_statement::statement::Statement;
 use std::alloc::Global;
 
 /// The statement of a lawful snapshot, else the first of its faults, or `OutOfMemory` where memory

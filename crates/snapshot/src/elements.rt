@@ -14,7 +14,7 @@ use crate::local::local;
 use crate::snapshot::{ShareData, Snapshot};
 use commons::packet::Seg;
 use commons::seq::Seq;
-use pool_model::guest::Guest;
+use pool_statement::guest::Guest;
 use std::alloc::{AllocError, Global};
 
 /// Finds the least element that a cache, a packet or a guest names and that the pool doesn't have.

@@ -11,7 +11,7 @@ ghost use Rattle.snapshot.specs.Snapshots.{HasSlots, IsLawful, ListsItsElements,
 ghost use Rattle.pool_model.specs.Sound.{ListsOnlyPackets};
 ghost use Rattle.pool_model.specs.Pool.{held_of};
 ghost use Rattle.pool_model.specs.Statements.{ListsEachOnce, PlacesEachOnce, statement_of};
-ghost use Rattle.pool_model.specs.declared.statement.Statement.{Statement};
+ghost use Rattle.pool_statement.specs.declared.statement.Statement.{Statement};
 
 /// A snapshot is lawful exactly where it has none of the faults.
 pub fn a_lawful_snapshot_has_no_fault()

@@ -14,8 +14,8 @@ use crate::local::local;
 use crate::snapshot::{ShareData, Snapshot};
 use commons::packet::Seg;
 use commons::seq::Seq;
-use pool_model::guest::Guest;
-use pool_model::statement::{DeskPacket, Held, Holder, PlacedPacket, Statement};
+use pool_statement::guest::Guest;
+use pool_statement::statement::{DeskPacket, Held, Holder, PlacedPacket, Statement};
 use std::alloc::{AllocError, Global};
 
 /// The statement of a lawful snapshot, whose walk this is.

@@ -9,7 +9,7 @@ ghost use Rattle.snapshot.specs.Snapshots.{HasShape, most_places};
 
 use crate::fault::Fault;
 use crate::snapshot::{ShareData, Snapshot};
-use pool_model::guest::Guest;
+use pool_statement::guest::Guest;
 
 /// The most guests that a worker may have: the segments of 256 packets.
 const MOST_GUESTS: u64 = 8192;

@@ -3,7 +3,7 @@
 use commons::limits::Limits;
 use commons::packet::Seg;
 use commons::seq::Seq;
-use pool_model::guest::Guest;
+use pool_statement::guest::Guest;
 
 /// What a worker hands in, as plain data.
 #[derive(Debug, Drop)]

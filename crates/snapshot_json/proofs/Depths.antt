@@ -5,7 +5,7 @@ use Rattle.commons.specs.declared.limits.PutRule.{PutRule}
 use Rattle.commons.specs.declared.limits.PutRule.TheVariants.{Keep, Whole}
 use Rattle.commons.specs.declared.packet.Seg.{Seg}
 use Rattle.statement_text.specs.StatementData.{base_data, count_data, counts_data, seg_data}
-use Rattle.pool_model.specs.declared.guest.Guest.{Guest}
+use Rattle.pool_statement.specs.declared.guest.Guest.{Guest}
 use Rattle.serde_json.specs.Data.{Data, depth, items_depth}
 use Rattle.serde_json.specs.View.{items_of}
 use Rattle.snapshot.specs.declared.snapshot.ShareData.{ShareData}

@@ -6,7 +6,7 @@ use Rattle.json.specs.Find.{as_bool, as_number, is_null}
 use Rattle.json.specs.Json as json
 use Rattle.json.specs.Json.{Json}
 use Rattle.json.specs.Value.{items_of}
-use Rattle.pool_model.specs.declared.guest.Guest.{Guest}
+use Rattle.pool_statement.specs.declared.guest.Guest.{Guest}
 use Rattle.serde_json.specs.Data.{Data, array, boolean}
 use Rattle.serde_json.specs.Read.{of_items, of_json}
 use Rattle.serde_json.specs.View as views

@@ -10,7 +10,7 @@ use Rattle.commons.specs.declared.limits.PutRule.{PutRule}
 use Rattle.commons.specs.declared.limits.PutRule.TheVariants.{Keep, Whole}
 use Rattle.commons.specs.declared.packet.Seg.{Seg}
 use Rattle.statement_text.specs.StatementData.{count_data, counts_data, segs_data}
-use Rattle.pool_model.specs.declared.guest.Guest.{Guest}
+use Rattle.pool_statement.specs.declared.guest.Guest.{Guest}
 use Rattle.snapshot.specs.declared.snapshot.ShareData.{ShareData}
 use Rattle.snapshot.specs.declared.snapshot.Snapshot.{Snapshot}
 

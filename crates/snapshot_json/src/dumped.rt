@@ -7,7 +7,7 @@ ghost use Rattle.commons.specs.declared.packet.Seg.{Seg};
 ghost use Rattle.json.specs.Json.{array, document, member as a_member, no_members, object, skip_value};
 ghost use Rattle.json.specs.Strict.{HasUniqueKeys};
 ghost use Rattle.json.specs.Value.{items_view, members_view, value_view};
-ghost use Rattle.pool_model.specs.declared.guest.Guest.{Guest};
+ghost use Rattle.pool_statement.specs.declared.guest.Guest.{Guest};
 ghost use Rattle.serde_json.specs.Read.{max_depth, read};
 ghost use Rattle.snapshot.specs.declared.snapshot.ShareData.{ShareData};
 ghost use Rattle.snapshot_json.specs.Dumped.{IsLow, IsOf, Passes};
@@ -19,7 +19,7 @@ use commons::packet::Seg;
 use commons::seq::Seq;
 use itoa::Buffer;
 use json::{Reader, Scratch, Value};
-use pool_model::guest::Guest;
+use pool_statement::guest::Guest;
 use snapshot::snapshot::{ShareData, Snapshot};
 use std::alloc::Global;
 

@@ -8,7 +8,7 @@ ghost use Rattle.snapshot_json.specs.Shown.{base_at, beside_stack, flag_at, item
 use commons::limits::{Limits, PutRule};
 use commons::packet::Seg;
 use commons::seq::Seq;
-use pool_model::guest::Guest;
+use pool_statement::guest::Guest;
 use serde_json::Value;
 use snapshot::snapshot::{ShareData, Snapshot};
 use std::alloc::{AllocError, Global};

@@ -7,7 +7,7 @@ ghost use Rattle.snapshot_json.specs.SnapshotData.{common_data, guest_data, gues
 use commons::limits::{Limits, PutRule};
 use commons::packet::Seg;
 use commons::seq::Seq;
-use pool_model::guest::Guest;
+use pool_statement::guest::Guest;
 use serde_json::{Value, json};
 use snapshot::snapshot::{ShareData, Snapshot};
 use statement_text::values::{numbers, segs};

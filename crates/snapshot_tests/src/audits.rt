@@ -6,7 +6,7 @@ use audit_text::stack_of;
 use commons::packet::Seg;
 use commons::refusal::Refusal;
 use commons::seq::Seq;
-use pool_model::statement::{DeskPacket, Held, Holder, PlacedPacket, Statement};
+use pool_statement::statement::{DeskPacket, Held, Holder, PlacedPacket, Statement};
 use snapshot::all_faults::{all_faults, all_faults_on};
 use snapshot::audit::audit;
 use snapshot::fault::Fault;

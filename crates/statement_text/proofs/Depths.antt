@@ -1,13 +1,13 @@
 -- How deep a statement's JSON nests.
 use Rattle.std.proofs.Common.{ℕ, ◌≤◌, List, [], ◌∷◌, Option, None, Some, map, arith}
 use Rattle.commons.specs.declared.packet.Seg.{Seg}
-use Rattle.pool_model.specs.declared.settled.Settled.{Settled}
-use Rattle.pool_model.specs.declared.statement.Statement.{Statement}
-use Rattle.pool_model.specs.declared.statement.DeskPacket.{DeskPacket}
-use Rattle.pool_model.specs.declared.statement.PlacedPacket.{PlacedPacket}
-use Rattle.pool_model.specs.declared.statement.Held.{Held}
-use Rattle.pool_model.specs.declared.statement.Holder.{Holder}
-use Rattle.pool_model.specs.declared.statement.Holder.TheVariants.{Worker, Desk}
+use Rattle.pool_statement.specs.declared.settled.Settled.{Settled}
+use Rattle.pool_statement.specs.declared.statement.Statement.{Statement}
+use Rattle.pool_statement.specs.declared.statement.DeskPacket.{DeskPacket}
+use Rattle.pool_statement.specs.declared.statement.PlacedPacket.{PlacedPacket}
+use Rattle.pool_statement.specs.declared.statement.Held.{Held}
+use Rattle.pool_statement.specs.declared.statement.Holder.{Holder}
+use Rattle.pool_statement.specs.declared.statement.Holder.TheVariants.{Worker, Desk}
 use Rattle.serde_json.specs.Data.{Data, depth, items_depth}
 use Rattle.serde_json.specs.View.{items_of}
 use Rattle.statement_text.specs.StatementData.{base_data, count_data, counts_data, desk_data, held_data, holder_data, packet_data, seg_data, segs_data, settled_data, settled_with, statement_data}

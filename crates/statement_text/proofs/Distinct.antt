@@ -3,12 +3,12 @@ use Rattle.std.proofs.Common.{ℕ, suc, ◌≡◌, ◌<◌, ◌^◌, List, [], �
 use Rattle.std.specs.Prelude.{All}
 use Rattle.std.proofs.lemmas.Fmt.{decimal_injective, decimal_is_IsNumeral}
 use Rattle.commons.specs.declared.packet.Seg.{Seg}
-use Rattle.pool_model.specs.declared.statement.Statement.{Statement}
-use Rattle.pool_model.specs.declared.statement.DeskPacket.{DeskPacket}
-use Rattle.pool_model.specs.declared.statement.PlacedPacket.{PlacedPacket}
-use Rattle.pool_model.specs.declared.statement.Held.{Held}
-use Rattle.pool_model.specs.declared.statement.Holder.{Holder}
-use Rattle.pool_model.specs.declared.statement.Holder.TheVariants.{Worker, Desk}
+use Rattle.pool_statement.specs.declared.statement.Statement.{Statement}
+use Rattle.pool_statement.specs.declared.statement.DeskPacket.{DeskPacket}
+use Rattle.pool_statement.specs.declared.statement.PlacedPacket.{PlacedPacket}
+use Rattle.pool_statement.specs.declared.statement.Held.{Held}
+use Rattle.pool_statement.specs.declared.statement.Holder.{Holder}
+use Rattle.pool_statement.specs.declared.statement.Holder.TheVariants.{Worker, Desk}
 use Rattle.serde_json.specs.Data.{Data, array}
 use Rattle.serde_json.specs.View.{items_of}
 use Rattle.statement_text.specs.StatementData.{HasWords, IsWord, base_data, count_data, counts_data, desk_data, held_data, holder_data, packet_data, seg_data, segs_data, statement_data}

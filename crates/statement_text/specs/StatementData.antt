@@ -4,13 +4,13 @@ use Rattle.serde_json.specs.Data.{Data, null, number, unsigned, string, array, o
 use Rattle.serde_json.specs.View.{items_of}
 use Rattle.serde_json.specs.Written.{compact_text}
 use Rattle.commons.specs.declared.packet.Seg.{Seg}
-use Rattle.pool_model.specs.declared.settled.Settled.{Settled}
-use Rattle.pool_model.specs.declared.statement.Statement.{Statement}
-use Rattle.pool_model.specs.declared.statement.DeskPacket.{DeskPacket}
-use Rattle.pool_model.specs.declared.statement.PlacedPacket.{PlacedPacket}
-use Rattle.pool_model.specs.declared.statement.Held.{Held}
-use Rattle.pool_model.specs.declared.statement.Holder.{Holder}
-use Rattle.pool_model.specs.declared.statement.Holder.TheVariants.{Worker, Desk}
+use Rattle.pool_statement.specs.declared.settled.Settled.{Settled}
+use Rattle.pool_statement.specs.declared.statement.Statement.{Statement}
+use Rattle.pool_statement.specs.declared.statement.DeskPacket.{DeskPacket}
+use Rattle.pool_statement.specs.declared.statement.PlacedPacket.{PlacedPacket}
+use Rattle.pool_statement.specs.declared.statement.Held.{Held}
+use Rattle.pool_statement.specs.declared.statement.Holder.{Holder}
+use Rattle.pool_statement.specs.declared.statement.Holder.TheVariants.{Worker, Desk}
 
 -- a number
 abbrev pub count_data : ℕ → Data

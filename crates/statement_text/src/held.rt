@@ -5,7 +5,7 @@ ghost use Rattle.element_text.specs.Elements.{joined};
 ghost use Rattle.statement_text.specs.StatementText.{held_text, holder_text};
 
 use element_text::write_number;
-use pool_model::statement::{Held, Holder};
+use pool_statement::statement::{Held, Holder};
 use std::alloc::AllocError;
 
 /// A line for each held element.

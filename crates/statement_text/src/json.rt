@@ -6,8 +6,8 @@ ghost use Rattle.statement_text.specs.StatementData.{json_of, json_of_settled, s
 
 use crate::values;
 use commons::refusal::Refusal;
-use pool_model::settled::Settled;
-use pool_model::statement::Statement;
+use pool_statement::settled::Settled;
+use pool_statement::statement::Statement;
 use std::alloc::{AllocError, Global};
 
 /// The compact text of one pool's statement, with a line feed at its end.

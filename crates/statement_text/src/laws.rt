@@ -1,7 +1,7 @@
 //! Laws of a statement's JSON.
 
 ghost use Rattle.std.specs.Prelude.{◌≡◌};
-ghost use Rattle.pool_model.specs.declared.statement.Statement.{Statement};
+ghost use Rattle.pool_statement.specs.declared.statement.Statement.{Statement};
 ghost use Rattle.statement_text.specs.StatementData.{HasWords, statement_data};
 
 /// The JSON leaves nothing of a statement out: two statements that have the same are the same.

@@ -1,13 +1,13 @@
 //! Segments, and the packets that are made of them.
 ghost use Rattle.std.specs.Prelude.{◌≡◌, ◌++◌, OnOk, codes, decimal};
 ghost use Rattle.std.specs.List.{flat_map};
-ghost use Rattle.mbuf.specs.Lengths.{pkt_len};
+ghost use Rattle.commons.specs.Packets.{pkt_len};
 ghost use Rattle.element_text.specs.Elements.{joined};
 ghost use Rattle.statement_text.specs.StatementText.{desk_text, packet_text, segment_text, segments_text};
 
 use commons::packet::Seg;
 use element_text::{write_base, write_number};
-use pool_model::statement::{DeskPacket, PlacedPacket};
+use pool_statement::statement::{DeskPacket, PlacedPacket};
 use std::alloc::AllocError;
 
 /// A line for each packet of a worker.

@@ -7,8 +7,8 @@ ghost use Rattle.statement_text.specs.StatementData.{counts_data, desk_data, hel
 
 use commons::packet::Seg;
 use commons::seq::Seq;
-use pool_model::settled::Settled;
-use pool_model::statement::{DeskPacket, Held, Holder, PlacedPacket, Statement};
+use pool_statement::settled::Settled;
+use pool_statement::statement::{DeskPacket, Held, Holder, PlacedPacket, Statement};
 use serde_json::{Value, json};
 use std::alloc::{AllocError, Global};
 

@@ -7,8 +7,8 @@ use crate::held::write_held;
 use crate::segments::{write_desks, write_packets};
 use commons::refusal::Refusal;
 use element_text::{write_elements, write_number};
-use pool_model::settled::Settled;
-use pool_model::statement::Statement;
+use pool_statement::settled::Settled;
+use pool_statement::statement::Statement;
 use std::alloc::{AllocError, Global};
 
 /// The text of one pool's statement: its totals, the common list from the top, and then a line for

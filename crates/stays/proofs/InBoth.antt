@@ -4,7 +4,7 @@ use Rattle.std.specs.Prelude.{◌⊎◌, ◌↔◌, Contains, filter}
 use Rattle.std.specs.Cmp.Lexicographic.{pointwise}
 use Rattle.std.proofs.lemmas.List.Elements.{Contains-append_cases, Contains-append_left, Contains-append_right, Contains-push, Contains-push_cases}
 use Rattle.std.proofs.lemmas.List.Folds.{Any-from_list_any, list_any-from_Any}
-use Rattle.pool_model.specs.declared.statement.Statement.{Statement}
+use Rattle.pool_statement.specs.declared.statement.Statement.{Statement}
 use Rattle.stays.specs.declared.used.Part.{Part}
 use Rattle.stays.specs.declared.used.Used.{Used}
 use Rattle.stays.specs.Stays.{IsUsedIn, has_parts, same_part, stays_between, used_in}

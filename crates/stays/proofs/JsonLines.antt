@@ -3,7 +3,7 @@ use Rattle.std.proofs.Common.{◌≡◌, ◌++◌, append_assoc, codes}
 use Rattle.json.specs.Print.{escape_byte}
 use Rattle.serde_json.specs.Data.{Data, object, member, no_members}
 use Rattle.serde_json.specs.Written.{compact_text}
-use Rattle.pool_model.specs.declared.statement.Statement.{Statement}
+use Rattle.pool_statement.specs.declared.statement.Statement.{Statement}
 use Rattle.statement_text.specs.StatementData.{json_of, statement_data}
 use Rattle.stays.specs.StayData.{since_json_of, stays_data}
 use Rattle.stays.specs.Stays.{stays_between}

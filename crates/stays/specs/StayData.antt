@@ -3,7 +3,7 @@ use Rattle.std.specs.Prelude.{ℕ, List, map, codes}
 use Rattle.serde_json.specs.Data.{Data, array, object, member, no_members}
 use Rattle.serde_json.specs.View.{items_of}
 use Rattle.serde_json.specs.Written.{compact_text}
-use Rattle.pool_model.specs.declared.statement.Statement.{Statement}
+use Rattle.pool_statement.specs.declared.statement.Statement.{Statement}
 use Rattle.statement_text.specs.StatementData.{base_data, count_data, statement_data}
 use Rattle.stays.specs.StayText.{first_elem}
 use Rattle.stays.specs.Stays.{stays_between}

@@ -2,7 +2,7 @@
 use Rattle.std.specs.Prelude.{ℕ, List, [], ◌∷◌, ◌++◌, length, codes, decimal}
 use Rattle.std.specs.List.{flat_map}
 use Rattle.element_text.specs.Elements.{base_text, joined}
-use Rattle.pool_model.specs.declared.statement.Statement.{Statement}
+use Rattle.pool_statement.specs.declared.statement.Statement.{Statement}
 use Rattle.statement_text.specs.StatementText.{text_of}
 use Rattle.stays.specs.Stays.{stays_between}
 use Rattle.stays.specs.declared.used.Part.{Part}

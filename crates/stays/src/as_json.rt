@@ -9,7 +9,7 @@ use crate::staying::stays;
 use crate::used::Used;
 use crate::values;
 use commons::refusal::Refusal;
-use pool_model::statement::Statement;
+use pool_statement::statement::Statement;
 use statement_text::pool_json;
 use std::alloc::{AllocError, Global};
 

@@ -1,7 +1,7 @@
 //! Laws of what stays.
 
 ghost use Rattle.std.specs.Prelude.{◌≡◌, ◌↔◌, Contains};
-ghost use Rattle.pool_model.specs.declared.statement.Statement.{Statement};
+ghost use Rattle.pool_statement.specs.declared.statement.Statement.{Statement};
 ghost use Rattle.stays.specs.Stays.{IsUsedIn, stays_between, used_in};
 ghost use Rattle.stays.specs.declared.used.Used.{Used};
 

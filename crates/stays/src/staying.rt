@@ -6,7 +6,7 @@ ghost use Rattle.stays.specs.Stays.{stays_between};
 use crate::known::Known;
 use crate::used::{Used, listed};
 use commons::refusal::Refusal;
-use pool_model::statement::Statement;
+use pool_statement::statement::Statement;
 use std::alloc::{AllocError, Global};
 
 /// The packets that the newer of two statements of one pool lists and the older one too, with the

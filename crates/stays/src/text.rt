@@ -9,7 +9,7 @@ use crate::staying::stays;
 use crate::used::{Part, Place, Used};
 use commons::refusal::Refusal;
 use element_text::{write_base, write_number};
-use pool_model::statement::Statement;
+use pool_statement::statement::Statement;
 use statement_text::pool_text;
 use std::alloc::{AllocError, Global};
 

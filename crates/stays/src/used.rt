@@ -5,7 +5,7 @@ ghost use Rattle.stays.specs.Stays.{desk_use, part_of, slot_use, used_in};
 
 use commons::packet::Seg;
 use commons::seq::Seq;
-use pool_model::statement::{DeskPacket, PlacedPacket, Statement};
+use pool_statement::statement::{DeskPacket, PlacedPacket, Statement};
 use std::alloc::{AllocError, Global};
 
 /// A segment as its elements.

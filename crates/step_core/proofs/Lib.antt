@@ -30,3 +30,8 @@ pub mod PacketTests
 pub mod HeaderSteps
 pub mod HeaderWalks
 pub mod Handing
+pub mod PassedHands
+pub mod TwoWorlds
+pub mod Passing
+pub mod PassedPlaces
+pub mod OtherWorkers

@@ -14,3 +14,4 @@ pub mod Runs
 pub mod Headline
 pub mod Headers
 pub mod Handing
+pub mod Passing

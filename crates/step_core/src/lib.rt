@@ -5,6 +5,7 @@
 mod counting;
 mod desk_steps;
 pub mod elems;
+pub mod hand_laws;
 pub mod laws;
 mod opening;
 mod packets;

@@ -6,8 +6,8 @@ use Rattle.commons.specs.declared.refusal.Refusal.{Refusal}
 use Rattle.commons.specs.declared.refusal.Refusal.TheVariants.{BadPool}
 use Rattle.commons.specs.declared.refusal.Refusal.TheVariants as refusals
 use Rattle.statement_text.specs.StatementData.{json_of, json_of_settled}
-use Rattle.pool_model.specs.declared.settled.Settled.{Settled}
-use Rattle.pool_model.specs.declared.statement.Statement.{Statement}
+use Rattle.pool_statement.specs.declared.settled.Settled.{Settled}
+use Rattle.pool_statement.specs.declared.statement.Statement.{Statement}
 use Rattle.pool_picture.specs.Picture.{dot_of}
 use Rattle.snapshot.specs.declared.snapshot.Snapshot.{Snapshot}
 use Rattle.snapshot.specs.Faults.{IsFirstFault}

@@ -1,7 +1,7 @@
 -- What is printed in each form, and for each task.
 use Rattle.std.specs.Prelude.{ℕ, suc, ◌≡◌, List, ◌++◌, codes}
 use Rattle.statement_text.specs.StatementData.{numbers_of}
-use Rattle.pool_model.specs.declared.settled.Settled.{Settled}
+use Rattle.pool_statement.specs.declared.settled.Settled.{Settled}
 use Rattle.script.specs.Losing.{IsCauseWithout, LosesFrom, lost_text}
 use Rattle.script.specs.Printed.{IsJsonFor, IsPrintedFor}
 use Rattle.script.specs.Running.{RunsTo}

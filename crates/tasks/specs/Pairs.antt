@@ -5,7 +5,7 @@ use Rattle.commons.specs.declared.limits.PutRule.{PutRule}
 use Rattle.commons.specs.declared.limits.PutRule.TheVariants.{Keep, Whole}
 use Rattle.commons.specs.declared.refusal.Refusal.{Refusal}
 use Rattle.commons.specs.declared.refusal.Refusal.TheVariants.{OutOfMemory}
-use Rattle.pool_model.specs.declared.statement.Statement.{Statement}
+use Rattle.pool_statement.specs.declared.statement.Statement.{Statement}
 use Rattle.script_io.specs.declared.reading.ReadFault.{ReadFault}
 use Rattle.stays.specs.StayData.{since_json_of}
 use Rattle.stays.specs.StayText.{since_text_of}

@@ -8,7 +8,7 @@ use crate::failures::{Cause, Failure, Which};
 use crate::running::written;
 use crate::task::Form;
 use commons::refusal::Refusal;
-use pool_model::settled::Settled;
+use pool_statement::settled::Settled;
 use std::alloc::Global;
 
 /// What the audit of two snapshots prints in a form: what is printed of the two pools of a script.

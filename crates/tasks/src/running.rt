@@ -6,7 +6,7 @@ ghost use Rattle.tasks.specs.Forms.{IsRunPrintedAs};
 
 use crate::task::{Form, Turns};
 use commons::refusal::Refusal;
-use pool_model::settled::Settled;
+use pool_statement::settled::Settled;
 use script::{Grounds, run_script, statement_json, statement_text};
 use std::alloc::Global;
 use std::sync::Wait;

@@ -15,7 +15,7 @@ use crate::scripts::Scripts;
 use crate::task::{Form, Pair};
 use crate::telling::tell_pair;
 use commons::refusal::Refusal;
-use pool_model::statement::Statement;
+use pool_statement::statement::Statement;
 use script_io::{Sink, Tally, write_out};
 use stays::{since_json, since_text};
 use std::alloc::Global;

@@ -1,5 +1,5 @@
--- What a worker of two pools keeps, whatever it does; and where a clone stands.
-use Rattle.std.proofs.Common.{ℕ, ◌≡◌, List, length, get_or, get_or-set_same, IsSome, Option, Some, None, Result, Ok, refl, sym, ap, subst, ◌∙◌}
+-- What a worker of two pools keeps, whatever it does.
+use Rattle.std.proofs.Common.{ℕ, ◌≡◌, List, length, get_or, Option, Some, None, Result, refl, sym, ap, subst}
 use Rattle.commons.specs.Calls.{Call}
 use Rattle.commons.specs.declared.packet.Seg.{Seg}
 use Rattle.commons.specs.declared.refusal.Refusal.{Refusal}
@@ -8,32 +8,14 @@ use Rattle.mbuf.specs.Acts.{Reply}
 use Rattle.mbuf.specs.Foreign.{ClonesInto, CantClone, CloneGivenUp, ClonedInto, FreesForeign, NoClone, CloneFreed}
 use Rattle.mbuf.specs.Lengths.{adjusted, trimmed}
 use Rattle.mbuf.specs.Members.{Member, slots}
-use Rattle.mbuf.specs.PacketRules.{Resizes, free_slot, resize_in, resize_to}
+use Rattle.mbuf.specs.PacketRules.{Resizes, resize_in, resize_to}
 use Rattle.mbuf.specs.Twins.{TwinMember}
 use Rattle.mbuf.specs.declared.freed.Freed.{Freed}
-use Rattle.mbuf.proofs.ActLemmas.{any_room, clonable_free}
+use Rattle.mbuf.proofs.ActLemmas.{any_room}
 use Rattle.mbuf.proofs.MemberLemmas.{performs_keeps}
-use Rattle.mbuf.proofs.OwnLemmas.{free_slot-is}
 use Rattle.twin_acts.specs.TwinActs.{HasTwinRoom, KeepsTwin, PerformsTwin}
 use Rattle.twin_acts.specs.declared.acts.TwinAct.{TwinAct}
 use Rattle.twin_acts.specs.declared.acts.TwinAct.TheVariants.{OnFirst, CloneInto, AdjClone, TrimClone, CountClone, FreeClone}
-
-some_there : (o : Option (List Seg)) (new : List Seg) → o ≡ Some new → IsSome o
-some_there o new e = subst (λ (x : Option (List Seg)). IsSome x) (sym e) refl
-
--- a foreign clone stands where it was answered
-pub cloned_into_there : (first second first_after after : Member) (p : ℕ) (firsts seconds : List Call) (slot : ℕ) →
-    ClonesInto first second p firsts seconds (Ok slot) first_after after → IsSome (get_or after.table slot None)
-cloned_into_there first second first_after after p firsts seconds slot (CantClone cause f c d a k l) = absurd cc
-cloned_into_there first second first_after after p firsts seconds slot (CloneGivenUp segs s f cause x y g a k l) = absurd cc
-cloned_into_there first second first_after after p firsts seconds slot (ClonedInto segs s f new left g a k l) =
-    let same : slot ≡ s = cc in
-    some_there (get_or after.table slot None) new
-    (ap (λ (x : Member). get_or x.table slot None) l
-    ∙ rw same (get_or-set_same second.table s (Some new) None (free_slot-is second.table s
-    (clonable_free (get_or first.table p None) (free_slot second.table) segs s f)).0))
-
--- ---- the worker stays the same
 
 abbrev Keeps : Member → Member → Type 0
 Keeps old new = (new.limits ≡ old.limits) × (new.number ≡ old.number)

@@ -1,19 +1,15 @@
 //! What a worker of two pools is asked to do, and what is replied.
 
-ghost use Rattle.std.specs.Prelude.{◌≡◌, IsSome, None, slice_index_or};
-ghost use Rattle.commons.specs.Packets.{own_in_slot};
-ghost use Rattle.mbuf.specs.Acts.{HasRoom, as_reply, told_len as len_reply};
+ghost use Rattle.mbuf.specs.Acts.{HasRoom, as_reply};
 ghost use Rattle.mbuf.specs.Foreign.{BothCalls};
 ghost use Rattle.mbuf.specs.Fresh.{new_elements};
 ghost use Rattle.mbuf.specs.Twins.{OwnTwin};
 ghost use Rattle.mbuf.specs.Refused.{IfRefused};
 ghost use Rattle.twin_acts.specs.TwinActs.{AreFreshByAct, HasTwinRoom, KeepsTwin, PerformsTwin, TwinAsBefore};
 
-use arrayvec::ArrayVec;
-use commons::packet::MAX_SEGS;
 use commons::refusal::Refusal;
 use commons::shared::Commons;
-use mbuf::acts::{Act, Answer, Reply};
+use mbuf::acts::{Act, Answer, Reply, elems_in, told_len};
 use mbuf::packets::{Packets, Pid};
 use mbuf::twin::Twin;
 
@@ -32,28 +28,6 @@ pub enum TwinAct {
     CountClone(Pid),
     /// Frees the foreign clone in this slot.
     FreeClone(Pid),
-}
-
-/// The elements of the packet in a slot, in the order of its segments.
-fn elems_in(packets: &Packets, slot: Pid) -> ArrayVec<u32, MAX_SEGS>
-    requires { IsSome (slice_index_or packets.now.table slot None) }
-    ensures { result.items ≡ own_in_slot (slice_index_or packets.now.table slot None) }
-{
-    let mut elems = ArrayVec::new();
-    for seg in packets.place(slot).unwrap().segs() {
-        elems.push(seg.elem);
-    }
-    elems
-}
-
-/// The answer that tells of a length.
-fn told_len<const ROOM: usize>(answer: Result<u32, Refusal>) -> Answer<ROOM>
-    ensures { as_reply result ≡ len_reply answer }
-{
-    match answer {
-        Ok(len) => Answer::Len(len),
-        Err(cause) => Answer::Refused(cause),
-    }
 }
 
 /// Does this with the worker's packets of the first pool.

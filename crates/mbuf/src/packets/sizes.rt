@@ -1,9 +1,10 @@
 //! How long packets are, and how their lengths change, which asks nothing of the shared pool.
 ghost use Rattle.std.specs.Prelude.{◌≡◌, MatchResult, None, Some, length, slice_index_or};
+ghost use Rattle.commons.specs.Packets.{pkt_len as len_of};
 ghost use Rattle.mbuf.specs.Own.{Own, OwnWithGuests, StaysOwn};
 ghost use Rattle.mbuf.specs.PacketRules.{Resizes, of_packet};
 ghost use Rattle.mbuf.specs.inside.Changes.{resized, not_resized};
-ghost use Rattle.mbuf.specs.Lengths.{pkt_len as len_of, appended, prepended, adjusted, trimmed};
+ghost use Rattle.mbuf.specs.Lengths.{appended, prepended, adjusted, trimmed};
 ghost use Rattle.mbuf.specs.inside.Kept.{KeepsHolds};
 
 use super::{Packets, Pid};

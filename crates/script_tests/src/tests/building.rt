@@ -3,7 +3,7 @@
 use super::Places;
 use commons::packet::Seg;
 use commons::seq::Seq;
-use pool_model::statement::{DeskPacket, Held, Holder, PlacedPacket, Statement};
+use pool_statement::statement::{DeskPacket, Held, Holder, PlacedPacket, Statement};
 use std::alloc::{AllocError, Global};
 
 /// A list of these values.

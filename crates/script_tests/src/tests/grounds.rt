@@ -3,7 +3,7 @@
 use super::threads::{GROUNDS, TURNS};
 use super::{assert_given, json, played, same, text_of_end};
 use commons::refusal::Refusal;
-use pool_model::settled::Settled;
+use pool_statement::settled::Settled;
 use script::{Grounds, run_script, statement_text};
 use script_rows::parts::written;
 use script_rows::pools::FIRST_RUN;

@@ -3,7 +3,7 @@
 
 use super::grounds::assert_ends_as_its_replay;
 use super::same;
-use pool_model::statement::Statement;
+use pool_statement::statement::Statement;
 use std::alloc::{AllocError, Global};
 use std::process::Abort;
 use std::test::Fail;

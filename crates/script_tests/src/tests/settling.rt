@@ -5,7 +5,7 @@ use commons::closed::Closed;
 use commons::limits::Limits;
 use commons::refusal::Refusal;
 use mbuf::acts::Act;
-use pool_model::statement::Statement;
+use pool_statement::statement::Statement;
 use script_rows::parts::{Field, Part, written};
 use share_book::locked_site::LockedSite;
 use share_book::site_pool::SitePool;

@@ -2,7 +2,7 @@
 
 use super::{Places, StatementRow};
 use commons::packet::Seg;
-use pool_model::statement::Holder;
+use pool_statement::statement::Holder;
 
 /// A segment of a fresh packet.
 const FRESH: Seg = Seg {

@@ -5,8 +5,8 @@ use super::settling::{FOUR, ONCE, closed_at_last, lose_one, play_four, settled_a
 use super::{same, text_of_end};
 use commons::refusal::Refusal;
 use crossbeam_utils::Backoff;
-use pool_model::settled::Settled;
-use pool_model::statement::Statement;
+use pool_statement::settled::Settled;
+use pool_statement::statement::Statement;
 use script::{Gate, Grounds, OpenGate, run_threads};
 use script_rows::parts::{Field, Part, written};
 use script_text::commands::Script;

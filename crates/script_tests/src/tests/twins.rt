@@ -6,7 +6,7 @@ use commons::closed::Closed;
 use commons::limits::Limits;
 use commons::refusal::Refusal;
 use mbuf::acts::Act;
-use pool_model::settled::Settled;
+use pool_statement::settled::Settled;
 use script::{statement_json, statement_text};
 use share_book::site_pool::SitePool;
 use share_book::{

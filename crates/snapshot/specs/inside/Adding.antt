@@ -3,10 +3,10 @@ use Rattle.std.specs.Prelude.{ℕ, ◌≡◌, ◌<◌, ◌+◌, ◌++◌, Bool, 
 use Rattle.std.specs.declared.alloc.Global.{Global}
 use Rattle.commons.specs.Bag.{bag}
 use Rattle.commons.specs.Packets.{held_in}
-use Rattle.pool_model.specs.declared.guest.Guest.{Guest}
-use Rattle.pool_model.specs.declared.statement.Held.{Held}
-use Rattle.pool_model.specs.declared.statement.Holder.{Holder}
-use Rattle.pool_model.specs.declared.statement.Holder.TheVariants.{Worker}
+use Rattle.pool_statement.specs.declared.guest.Guest.{Guest}
+use Rattle.pool_statement.specs.declared.statement.Held.{Held}
+use Rattle.pool_statement.specs.declared.statement.Holder.{Holder}
+use Rattle.pool_statement.specs.declared.statement.Holder.TheVariants.{Worker}
 use Rattle.pool_model.specs.Guests.{elements_with, entry_with, guests_of, holders_with, local_table}
 use Rattle.snapshot.specs.declared.snapshot.ShareData.{ShareData}
 use Rattle.snapshot.specs.declared.snapshot.Snapshot.{Snapshot}

@@ -9,7 +9,7 @@ ghost use Rattle.snapshot.specs.inside.Marks.{HasMarked};
 
 use crate::local::local;
 use commons::packet::Seg;
-use pool_model::guest::Guest;
+use pool_statement::guest::Guest;
 use std::alloc::{AllocError, Global};
 
 /// This many elements without a mark.

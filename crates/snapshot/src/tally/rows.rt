@@ -9,7 +9,7 @@ ghost use Rattle.snapshot.specs.inside.Tallies.{HasMet, IsRow};
 
 use crate::local::local;
 use commons::packet::Seg;
-use pool_model::guest::Guest;
+use pool_statement::guest::Guest;
 use std::alloc::{AllocError, Global};
 
 /// A row of this many zeros.

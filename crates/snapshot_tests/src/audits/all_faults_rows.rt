@@ -4,7 +4,7 @@
 use super::faults::{C4, C8, C10, C12, E0, E1, E6, LARGE, SECOND, THIRD};
 use super::shown::{FRESH, Handed, Shown};
 use commons::packet::Seg;
-use pool_model::guest::Guest;
+use pool_statement::guest::Guest;
 use snapshot::fault::Fault;
 
 /// A name, a snapshot, the list that is its stack where it isn't the walk, and all its faults.

@@ -5,7 +5,7 @@ use super::Row;
 use super::shown::{FRESH, Handed, ONE, Places, Shown};
 use commons::limits::Limits;
 use commons::packet::Seg;
-use pool_model::statement::Holder;
+use pool_statement::statement::Holder;
 use snapshot::fault::Fault;
 
 // A chain of two, its clone, and three packets that use the buffer of element 6.

@@ -5,8 +5,8 @@ use super::Row;
 use super::shown::{FRESH, ONE, Places, Shown};
 use commons::limits::Limits;
 use commons::packet::Seg;
-use pool_model::guest::Guest;
-use pool_model::statement::Holder;
+use pool_statement::guest::Guest;
+use pool_statement::statement::Holder;
 use snapshot::fault::Fault;
 
 /// Elements 1 to 3 are common, and worker 1 holds element 0 for a packet of another pool.

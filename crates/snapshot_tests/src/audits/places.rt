@@ -4,7 +4,7 @@ use super::Row;
 use super::shown::{FRESH, Handed, ONE, Places, Shown};
 use commons::limits::Limits;
 use commons::packet::Seg;
-use pool_model::statement::Holder;
+use pool_statement::statement::Holder;
 use snapshot::fault::Fault;
 
 const FRESH_1: Seg = Seg { elem: 1, ..FRESH };

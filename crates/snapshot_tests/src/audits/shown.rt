@@ -2,8 +2,8 @@
 
 use commons::limits::{Limits, PutRule};
 use commons::packet::Seg;
-use pool_model::guest::Guest;
-use pool_model::statement::Holder;
+use pool_statement::guest::Guest;
+use pool_statement::statement::Holder;
 
 /// A snapshot as plain data.
 #[derive(Clone, Copy)]

@@ -4,7 +4,7 @@ use super::Row;
 use super::shown::{FRESH, ONE, Places, Shown, Word};
 use commons::limits::Limits;
 use commons::packet::Seg;
-use pool_model::statement::Holder;
+use pool_statement::statement::Holder;
 use snapshot::fault::Fault;
 
 /// Elements 1 and 2 are common, and worker 1 has a packet of element 0 in slot 0.

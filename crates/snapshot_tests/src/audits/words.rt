@@ -6,7 +6,7 @@ use super::shown::{FRESH, ONE, Places, Shown, Word};
 use super::vectors::{SMALL, SMALL_PLACES};
 use commons::limits::Limits;
 use commons::packet::Seg;
-use pool_model::statement::Holder;
+use pool_statement::statement::Holder;
 use snapshot::fault::Fault;
 
 /// What is answered where a word is another.

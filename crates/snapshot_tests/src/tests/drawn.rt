@@ -3,7 +3,7 @@
 use commons::limits::{Limits, PutRule};
 use commons::packet::Seg;
 use commons::seq::Seq;
-use pool_model::guest::Guest;
+use pool_statement::guest::Guest;
 use snapshot::snapshot::{ShareData, Snapshot};
 use std::alloc::{AllocError, Global};
 

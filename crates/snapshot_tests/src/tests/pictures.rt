@@ -1,8 +1,8 @@
 //! A pool, and its picture: with each element, and as sums.
 
 use commons::refusal::Refusal;
-use pool_model::statement::Statement;
 use pool_picture::pool_dot;
+use pool_statement::statement::Statement;
 use snapshot::audit::audit;
 use snapshot::snapshot::Snapshot;
 use snapshot_json::read_snapshot;

@@ -1,6 +1,6 @@
 use Rattle.std.proofs.Common.{ℕ, sym, ap, length, Vec, arith}
 use Rattle.std.specs.declared.alloc.Global.{Global}
-use Rattle.pool_model.specs.declared.guest.Guest.{Guest}
+use Rattle.pool_statement.specs.declared.guest.Guest.{Guest}
 use Rattle.book.proofs.Shares.{guests_more, guests_none_more}
 use Rattle.book.proofs.guests.guests.Goals as goal
 use Rattle.book.proofs.guests.guests.Goals.{in-Some+in_ok-add_guests, in_default}

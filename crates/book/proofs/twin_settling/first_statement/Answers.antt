@@ -1,6 +1,6 @@
 use Rattle.std.proofs.lemmas.Result.{IfOk-weaker}
 use Rattle.pool_model.specs.Statements.{PlacesEachOnce}
-use Rattle.pool_model.specs.declared.statement.Statement.{Statement}
+use Rattle.pool_statement.specs.declared.statement.Statement.{Statement}
 use Rattle.snapshot.specs.Snapshots.{HasSlots}
 use Rattle.book.proofs.Shares.{all_slots}
 use Rattle.book.proofs.Typed.{also_typed}

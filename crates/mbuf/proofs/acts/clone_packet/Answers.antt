@@ -2,13 +2,9 @@ use Rattle.std.proofs.Common.{ℕ, List, Ok, Err, refl, sym, ap, subst, ◌∙�
 use Rattle.mbuf.specs.Fresh.{AreFresh}
 use Rattle.mbuf.proofs.FreshLemmas.{fresh_none, slot_elements}
 use Rattle.mbuf.specs.declared.acts.Answer.TheVariants.{Cloned}
-use Rattle.mbuf.proofs.ActLemmas.{cloned_there, list_is}
+use Rattle.mbuf.proofs.ActLemmas.{list_is}
 use Rattle.mbuf.proofs.RefusedLemmas.{clone_refused}
 use Rattle.mbuf.proofs.acts.clone_packet.Goals as goal
-
--- The clone stands in the slot that was answered.
-pub elems_in-requires : goal.elems_in-requires
-elems_in-requires g c = let done = c.in-Ok.ensures.calls in cloned_there _ _ _ _ _ done.2
 
 -- The clone's calls are the act's, and the reply lists its own elements.
 pub returns-in-Ok : goal.returns-in-Ok

@@ -2,7 +2,7 @@ use Rattle.std.proofs.Common.{refl, arith}
 use Rattle.std.proofs.lemmas.Result.{IfOk-weaker}
 use Rattle.commons.specs.Bag.{bag}
 use Rattle.commons.specs.Packets.{held_in}
-use Rattle.pool_model.specs.declared.statement.Holder.TheVariants.{Worker}
+use Rattle.pool_statement.specs.declared.statement.Holder.TheVariants.{Worker}
 use Rattle.pool_model.specs.Guests.{local_table}
 use Rattle.snapshot.proofs.AddedHolders.{added-times}
 use Rattle.snapshot.proofs.placing.add_share.Goals as goal

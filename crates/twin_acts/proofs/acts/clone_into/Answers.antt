@@ -4,13 +4,7 @@ use Rattle.mbuf.specs.Fresh.{AreFresh}
 use Rattle.mbuf.specs.declared.acts.Answer.TheVariants.{Cloned}
 use Rattle.mbuf.proofs.ActLemmas.{list_is}
 use Rattle.mbuf.proofs.FreshLemmas.{fresh_none, slot_elements}
-use Rattle.twin_acts.proofs.Kept.{cloned_into_there}
 use Rattle.twin_acts.proofs.acts.clone_into.Goals as goal
-
-pub elems_in-requires : goal.elems_in-requires
-elems_in-requires g c =
-    let done = c.in-Ok.ensures.calls in
-    rw c.second.ensures (cloned_into_there _ _ _ _ _ _ _ _ done.2.2)
 
 pub returns-in-Ok-clause-calls : goal.returns-in-Ok-clause-calls
 returns-in-Ok-clause-calls g c =

@@ -1,9 +1,9 @@
 use Rattle.std.proofs.Common.{◌≡◌, ◌<◌, ℕ, List, length, set, get_or, get_or-set_same, Some, Result, Ok, Err, refl, sym, ap, subst, ◌∙◌, arith}
 use Rattle.std.proofs.lemmas.List.{set-get_or}
+use Rattle.commons.specs.Packets.{pkt_len}
 use Rattle.commons.specs.declared.packet.Seg.{Seg}
 use Rattle.commons.specs.declared.refusal.Refusal.{Refusal}
 use Rattle.mbuf.specs.inside.Kept.{member_of, shown, KeepsHolds}
-use Rattle.mbuf.specs.Lengths.{pkt_len}
 use Rattle.mbuf.specs.Members.{Member}
 use Rattle.mbuf.specs.inside.Changes.{resized, not_resized}
 use Rattle.mbuf.proofs.PacketCases.{not_resized_is, was_resized_is}

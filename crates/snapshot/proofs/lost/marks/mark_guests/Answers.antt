@@ -1,7 +1,7 @@
 use Rattle.std.proofs.Common.{◌+◌, [], get_or, refl, take}
 use Rattle.std.proofs.lemmas.List.Sums.{sum_by_more}
 use Rattle.commons.specs.Bag.{one}
-use Rattle.pool_model.specs.declared.guest.Guest.{Guest}
+use Rattle.pool_statement.specs.declared.guest.Guest.{Guest}
 use Rattle.pool_model.specs.Guests.{guest_holds}
 use Rattle.snapshot.proofs.Marks.{marked-none, marked-then}
 use Rattle.snapshot.proofs.lost.marks.mark_guests.Goals as goal

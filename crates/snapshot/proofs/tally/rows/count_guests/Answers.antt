@@ -1,7 +1,7 @@
 use Rattle.std.proofs.Common.{◌+◌, [], get_or, refl, take, arith}
 use Rattle.std.proofs.lemmas.List.Sums.{sum_by_more}
 use Rattle.commons.specs.Bag.{one}
-use Rattle.pool_model.specs.declared.guest.Guest.{Guest}
+use Rattle.pool_statement.specs.declared.guest.Guest.{Guest}
 use Rattle.pool_model.specs.Guests.{guest_holds}
 use Rattle.snapshot.proofs.Meetings.{met-none, met-then}
 use Rattle.snapshot.proofs.tally.rows.count_guests.Goals as goal

@@ -7,9 +7,9 @@ use Rattle.step_core.specs.declared.step.Step.{Step}
 use Rattle.step_core.specs.declared.view.View.{View}
 use Rattle.step_core.specs.World.{World, empty_view, view_at}
 use Rattle.step_core.specs.Steps.{Play, in_range, row, turn, played}
-use Rattle.hand_over.specs.Passing.{with_hand, IsWithout, AreUnchained, passed, PassesHand, SameBut, OthersDoTheSame}
-use Rattle.hand_over.proofs.Hands.{length_kept}
-use Rattle.hand_over.proofs.Rows.{SameTurn, same_turn, same_range, row_same}
+use Rattle.step_core.specs.Passing.{with_hand, IsWithout, AreUnchained, passed, PassesHand, SameBut, OthersDoTheSame}
+use Rattle.step_core.proofs.PassedHands.{length_kept}
+use Rattle.step_core.proofs.TwoWorlds.{SameTurn, same_turn, same_range, row_same}
 
 -- these elements have passed from the one world to the other
 abbrev pub Passes : ℕ → ℕ → List ℕ → World → World → Type 0

@@ -8,8 +8,8 @@ use Rattle.step_core.specs.World.{World, view_at, view_of, link_in}
 use Rattle.step_core.proofs.Bags.{times-append}
 use Rattle.step_core.proofs.Events.{Alike, same_at}
 use Rattle.step_core.proofs.Shows.{spells_same, is_in_hand}
-use Rattle.hand_over.specs.Passing.{passed, PassesHand, PassingMovesThem}
-use Rattle.hand_over.proofs.Hands.{read_kept, field_kept, got_hand}
+use Rattle.step_core.specs.Passing.{passed, PassesHand, PassingMovesThem}
+use Rattle.step_core.proofs.PassedHands.{read_kept, field_kept, got_hand}
 
 module _ (w : World) (j k : ℕ) (xs : List ℕ) (apart : j ≢ k) (u : World) (p : PassesHand w u j k xs) where
   -- the second world, by what it is of the first

@@ -1,7 +1,7 @@
 //! What stays when elements pass from hand to hand. Each law is a function that does nothing, and
 //! its contract is the law.
 
-ghost use Rattle.hand_over.specs.Passing.{HandsMayPass, PassingKeepsLaw, PassingKeepsWorld, PassingKeepsHeaders, PassingMovesThem, OthersDoTheSame};
+ghost use Rattle.step_core.specs.Passing.{HandsMayPass, PassingKeepsLaw, PassingKeepsWorld, PassingKeepsHeaders, PassingMovesThem, OthersDoTheSame};
 
 /// Elements of a worker's hand, none of them of its chain, may pass to the hand of any other worker
 /// with a part: there is such a world, with the same words, and it obeys each law of the machine

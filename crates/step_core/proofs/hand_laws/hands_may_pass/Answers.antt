@@ -1,6 +1,6 @@
-use Rattle.hand_over.proofs.Passing.{hands_may_pass, passing_keeps_law, passing_keeps_world, passing_keeps_headers}
-use Rattle.hand_over.proofs.Places.{passing_moves_them}
-use Rattle.hand_over.proofs.laws.hands_may_pass.Goals as goal
+use Rattle.step_core.proofs.Passing.{hands_may_pass, passing_keeps_law, passing_keeps_world, passing_keeps_headers}
+use Rattle.step_core.proofs.PassedPlaces.{passing_moves_them}
+use Rattle.step_core.proofs.hand_laws.hands_may_pass.Goals as goal
 
 -- there is such a world, it keeps the laws, and its table is the one before but for the hands
 pub returns : goal.returns

@@ -11,7 +11,7 @@ use Rattle.step_core.specs.World.{empty_view, view_at}
 use Rattle.step_core.specs.Law.{ChainRule}
 use Rattle.step_core.proofs.Bags.{times-append, times-from_length, times-head}
 use Rattle.step_core.proofs.Frame.{each_view}
-use Rattle.hand_over.specs.Passing.{with_hand, IsWithout, HasBoth, passed}
+use Rattle.step_core.specs.Passing.{with_hand, IsWithout, HasBoth, passed}
 
 -- a list in which nothing stands is empty
 none_left : (xs : List ℕ) → ((i : ℕ) → bag xs i ≡ 0) → length xs ≡ 0

@@ -9,8 +9,8 @@ use Rattle.step_core.specs.Law.{LookRule, ChainRule, Lawful, NamesNothing, fills
 use Rattle.step_core.specs.Headers.{HeaderLaw}
 use Rattle.step_core.specs.Kept.{IsWorld}
 use Rattle.step_core.proofs.Bags.{times-minus}
-use Rattle.hand_over.specs.Passing.{with_hand, IsWithout, AreUnchained, passed, HandsMayPass, PassingKeepsLaw, PassingKeepsWorld, PassingKeepsHeaders}
-use Rattle.hand_over.proofs.Hands.{empty_left, chain_left, chain_more, length_kept, hands_kept, sum_kept, each_passed, field_kept}
+use Rattle.step_core.specs.Passing.{with_hand, IsWithout, AreUnchained, passed, HandsMayPass, PassingKeepsLaw, PassingKeepsWorld, PassingKeepsHeaders}
+use Rattle.step_core.proofs.PassedHands.{empty_left, chain_left, chain_more, length_kept, hands_kept, sum_kept, each_passed, field_kept}
 
 -- the hand without these elements is what is left of it
 pub hands_may_pass : HandsMayPass
