@@ -30,6 +30,7 @@ enum form {
 	PACKETS,  /* packets that are made and freed */
 	CLONES,	  /* a packet that is cloned, and its clone freed */
 	PASSED,	  /* a list that one thread gets and another puts, over a ring of 1,024 */
+	SENT,	  /* packets that one thread makes and another frees, over such a ring or desks */
 	HANDED,	  /* one packet that two threads hand to and fro, or that one hands to itself */
 	FORMS
 };
@@ -40,6 +41,7 @@ enum workload {
 	PKT1, PKT32, PKT240,
 	CLONE1, CLONE4,
 	PASS1, PASS32,
+	SEND1, SEND32,
 	HANDOVER,
 	WORKLOADS
 };
@@ -63,6 +65,7 @@ size_of(enum workload w)
 	case GET32:
 	case PKT32:
 	case PASS32:
+	case SEND32:
 		return 32;
 	case PKT240:
 		return 240;
@@ -101,6 +104,11 @@ struct calls {
 	bool (*alloc_bulk)(void *user, union refs *refs, unsigned int n);
 	void (*free)(void *user, const union refs *refs, unsigned int i);
 	bool (*clone)(void *user, union refs *refs); /* of the user's source, to the first ref */
+
+	/* Of packets that another thread frees: sends n that were made, of which the refs say
+	 * nothing then; and receives n, if they come. */
+	void (*send)(void *user, union refs *refs, unsigned int n);
+	bool (*receive)(void *user, union refs *refs, unsigned int n);
 
 	/* Of the one packet that is handed over: onto a place, 0 or 1, and off it. */
 	bool (*offer)(void *user, unsigned int place);
@@ -162,13 +170,16 @@ extern const struct subject mempool_subject; /* on a handler, whose name is to b
 extern const struct subject lf_stack_subject, stack_subject, ring_mp_mc_subject;
 extern const struct subject ring_sp_sc_subject, ring_copy_subject;
 extern const struct subject plain_subject, none_subject;
-extern const struct subject pool_subject, worker_subject;
+extern const struct subject pool_subject, worker_subject, parcel_subject;
 extern const struct subject twice_subject, loses_subject;
 
 /* bare.c, rings.c: the forms of DPDK's own subjects that aren't a mempool */
 bool open_bare_stack(const struct subject *subject, const struct cell *cell, struct pool *pool);
 bool open_bare_ring(const struct subject *subject, const struct cell *cell, struct pool *pool);
 bool open_handed_ring(const struct subject *subject, const struct cell *cell, struct pool *pool);
+
+/* rings.c: the rings of one element over which a packet is handed there and back */
+bool make_places(struct rte_ring *place[2], unsigned int size, unsigned int flags);
 
 /* ---- runs ---- */
 
@@ -183,8 +194,8 @@ struct tally {
 /* Plays a cell's workload on this pool for so many nanoseconds. */
 struct tally play_pool(const struct cell *cell, const struct pool *pool, uint64_t ns);
 
-/* Of a list that is passed, the ring; and whether the first of two threads has ended, with
- * nothing of it on the way but what is on that ring. */
+/* Of a list that is passed or sent, the ring; and whether the first of two threads has ended,
+ * with nothing of it on the way but what is on that ring or on desks. */
 extern struct rte_ring *pass_ring;
 extern bool is_over;
 

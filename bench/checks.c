@@ -169,6 +169,20 @@ check_pass(const struct pool *pool, void *user, unsigned int n)
 	return 0;
 }
 
+static unsigned int
+check_send(const struct pool *pool, void *user, unsigned int n)
+{
+	union refs refs;
+
+	if (!(n == 1 ? pool->calls->alloc(user, &refs, 0) : pool->calls->alloc_bulk(user, &refs, n))) {
+		rte_pause();
+		return n;
+	}
+	mark_all(pool, user, &refs, n, is_out);
+	pool->calls->send(user, &refs, n);
+	return 0;
+}
+
 /* A packet came, and has to bring this number, of which it may keep no more than its buffer has
  * bytes. */
 static void
@@ -212,6 +226,8 @@ check_round(const struct pool *pool, enum workload w, void *user)
 		return check_clone(pool, user, size_of(w));
 	case PASSED:
 		return check_pass(pool, user, size_of(w));
+	case SENT:
+		return check_send(pool, user, size_of(w));
 	default:
 		check_hands(pool, user);
 		return 0;
@@ -248,6 +264,22 @@ answer_passes(const struct pool *pool, void *user, unsigned int n)
 }
 
 static void
+answer_sends(const struct pool *pool, void *user, unsigned int n)
+{
+	union refs refs;
+	unsigned int i;
+	bool is_last, has_come;
+
+	do {
+		is_last = __atomic_load_n(&is_over, __ATOMIC_SEQ_CST);
+		has_come = pool->calls->receive(user, &refs, n);
+		mark_all(pool, user, &refs, has_come ? n : 0, is_back);
+		for (i = 0; has_come && i < n; i++)
+			pool->calls->free(user, &refs, i);
+	} while (has_come || !is_last);
+}
+
+static void
 answer_hands(const struct pool *pool, void *user)
 {
 	uint32_t serial = 1; /* of the first packet that comes */
@@ -268,10 +300,16 @@ answer_hands(const struct pool *pool, void *user)
 void
 check_answer(const struct pool *pool, enum workload w, void *user)
 {
-	if (workloads[w].form == PASSED)
+	switch (workloads[w].form) {
+	case PASSED:
 		answer_passes(pool, user, size_of(w));
-	else
+		break;
+	case SENT:
+		answer_sends(pool, user, size_of(w));
+		break;
+	default:
 		answer_hands(pool, user);
+	}
 }
 
 /* ---- the end ---- */

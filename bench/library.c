@@ -3,13 +3,14 @@
 #include <string.h>
 
 #include <rte_common.h>
+#include <rte_ring.h>
 
 #include "mbufpool.h"
 #include "rounds.h"
 
 #define TRIES 1000000
 #define REF_LIMIT 65535
-#define DESKS 2
+#define DESKS 64
 
 /* ---- pools of values ---- */
 
@@ -152,11 +153,21 @@ const struct subject pool_subject = {
 
 /* ---- workers ---- */
 
+/* A packet of one segment that is under way as a parcel. */
+struct under_way {
+	struct mbufpool_parcel parcel;
+	struct mbufpool_parcel_segment segment;
+};
+
 struct worker_user {
 	struct mbufpool_worker worker;
 	uint32_t *marks;
 	unsigned int segments; /* of the packet that is cloned or handed over */
 	uint32_t slot;         /* of that packet */
+	unsigned int desk;     /* over which the next packet is sent or received */
+	struct under_way *parcels; /* one for each element */
+	struct under_way *parcel;  /* of the packet that is handed over, and its places */
+	struct rte_ring *place[2];
 } __rte_cache_aligned;
 
 struct worker_pool {
@@ -197,22 +208,6 @@ clone_packet(void *user, union refs *refs)
 	return mbufpool_worker_clone(&u->worker, u->slot, &refs->packet[0]) == 0;
 }
 
-static __rte_always_inline bool
-offer(void *user, unsigned int desk)
-{
-	struct worker_user *u = user;
-
-	return mbufpool_worker_offer(&u->worker, u->slot, desk) == 0;
-}
-
-static __rte_always_inline bool
-take(void *user, unsigned int desk)
-{
-	struct worker_user *u = user;
-
-	return mbufpool_worker_take(&u->worker, desk, &u->slot) == 0;
-}
-
 /* Makes the packet that is cloned or handed over, with as many segments as it is to have. */
 static bool
 make_first(void *user)
@@ -224,9 +219,10 @@ make_first(void *user)
 	for (i = 0; i < u->segments; i++) {
 		if (mbufpool_worker_alloc(&u->worker, &packet) != 0)
 			return false;
-		if (i == 0)
+		if (i == 0) {
 			u->slot = packet.slot;
-		else if (mbufpool_worker_chain(&u->worker, u->slot, packet.slot) != 0)
+			u->parcel = u->parcels != NULL ? &u->parcels[packet.element] : NULL;
+		} else if (mbufpool_worker_chain(&u->worker, u->slot, packet.slot) != 0)
 			return false;
 	}
 	return true;
@@ -312,6 +308,9 @@ end_workers(struct pool *pool)
 
 	for (i = 0; i < MOST_THREADS; i++)
 		mbufpool_worker_end(&p->user[i].worker);
+	rte_ring_free(p->user[0].place[0]);
+	rte_ring_free(p->user[0].place[1]);
+	free(p->user[0].parcels);
 	free(p->user[0].marks);
 	free(p);
 }
@@ -330,17 +329,165 @@ static const struct calls packets = {
 };
 PACKET_PLAYS(packets)
 
+/* ---- desks ---- */
+
+static __rte_always_inline bool
+offer(void *user, unsigned int desk)
+{
+	struct worker_user *u = user;
+
+	return mbufpool_worker_offer(&u->worker, u->slot, desk) == 0;
+}
+
+static __rte_always_inline bool
+take(void *user, unsigned int desk)
+{
+	struct worker_user *u = user;
+
+	return mbufpool_worker_take(&u->worker, desk, &u->slot) == 0;
+}
+
+/* Over one desk after the other, as over a ring. */
+static __rte_always_inline void
+send_over_desks(void *user, union refs *refs, unsigned int n)
+{
+	struct worker_user *u = user;
+	unsigned int i;
+
+	for (i = 0; i < n; i++) {
+		while (mbufpool_worker_offer(&u->worker, refs->packet[i].slot, u->desk) != 0)
+			rte_pause();
+		u->desk = (u->desk + 1) % DESKS;
+	}
+}
+
+/* Where the first packet of a list has come, the others do. */
+static __rte_always_inline bool
+receive_over_desks(void *user, union refs *refs, unsigned int n)
+{
+	struct worker_user *u = user;
+	unsigned int i;
+
+	for (i = 0; i < n; i++) {
+		while (mbufpool_worker_take(&u->worker, u->desk, &refs->packet[i].slot) != 0) {
+			if (i == 0)
+				return false;
+			rte_pause();
+		}
+		u->desk = (u->desk + 1) % DESKS;
+	}
+	return true;
+}
+
 static const struct calls desks = {
+	.ref_size = sizeof(void *), /* (of a ring that isn't used) */
+	.alloc = alloc,
+	.alloc_bulk = alloc_bulk,
+	.free = free_packet,
+	.send = send_over_desks,
+	.receive = receive_over_desks,
 	.offer = offer,
 	.take = take,
 	.ready = make_first,
 	.rest = rest,
+	.mark = mark_packet,
 	.write = write_serial,
 	.read = read_serial,
 	.missing = missing_from_workers,
 	.close = end_workers,
 };
+SEND_PLAYS(desks)
 HAND_PLAYS(desks)
+
+/* ---- parcels ---- */
+
+/* A packet is sent in the parcel of its element, whose address takes its place in the list. */
+static __rte_always_inline void
+send_parcels(void *user, union refs *refs, unsigned int n)
+{
+	struct worker_user *u = user;
+	struct under_way *to;
+	unsigned int i;
+
+	for (i = 0; i < n; i++) {
+		to = &u->parcels[refs->packet[i].element];
+		mbufpool_worker_send(&u->worker, refs->packet[i].slot, &to->parcel, 1);
+		refs->object[i] = to;
+	}
+	send_pointers(refs, n);
+}
+
+static __rte_always_inline bool
+receive_parcels(void *user, union refs *refs, unsigned int n)
+{
+	struct worker_user *u = user;
+	struct under_way *from;
+	unsigned int i;
+
+	if (!receive_pointers(refs, n))
+		return false;
+	for (i = 0; i < n; i++) {
+		from = refs->object[i];
+		mbufpool_worker_receive(&u->worker, &from->parcel, &refs->packet[i].slot);
+	}
+	return true;
+}
+
+static __rte_always_inline bool
+offer_parcel(void *user, unsigned int place)
+{
+	struct worker_user *u = user;
+
+	return mbufpool_worker_send(&u->worker, u->slot, &u->parcel->parcel, 1) == 0 &&
+		rte_ring_enqueue(u->place[place], u->parcel) == 0;
+}
+
+static __rte_always_inline bool
+take_parcel(void *user, unsigned int place)
+{
+	struct worker_user *u = user;
+
+	return rte_ring_dequeue(u->place[place], (void **)&u->parcel) == 0 &&
+		mbufpool_worker_receive(&u->worker, &u->parcel->parcel, &u->slot) == 0;
+}
+
+static const struct calls parcels = {
+	.ref_size = sizeof(void *),
+	.alloc = alloc,
+	.alloc_bulk = alloc_bulk,
+	.free = free_packet,
+	.send = send_parcels,
+	.receive = receive_parcels,
+	.offer = offer_parcel,
+	.take = take_parcel,
+	.ready = make_first,
+	.rest = rest,
+	.mark = mark_packet,
+	.write = write_serial,
+	.read = read_serial,
+	.missing = missing_from_workers,
+	.close = end_workers,
+};
+SEND_PLAYS(parcels)
+HAND_PLAYS(parcels)
+
+static bool
+make_parcels(struct worker_pool *p, const struct cell *cell)
+{
+	struct worker_user *first = &p->user[0];
+	unsigned int i;
+
+	first->parcels = calloc(cell->population, sizeof(first->parcels[0]));
+	if (first->parcels == NULL || !make_places(first->place, sizeof(void *), 0))
+		return false;
+	for (i = 1; i < cell->threads; i++) {
+		p->user[i].parcels = first->parcels;
+		memcpy(p->user[i].place, first->place, sizeof(first->place));
+	}
+	return true;
+}
+
+/* ---- pools of packets ---- */
 
 static bool
 make_workers(struct worker_pool *p, const struct cell *cell)
@@ -369,19 +516,39 @@ make_workers(struct worker_pool *p, const struct cell *cell)
 	return true;
 }
 
+static void
+choose_desks(const struct cell *cell, struct pool *pool)
+{
+	pool->calls = &desks;
+	if (workloads[cell->workload].form == HANDED)
+		desks_hand(cell->threads, pool);
+	else
+		desks_send(cell->workload, pool);
+}
+
+static void
+choose_parcels(const struct cell *cell, struct pool *pool)
+{
+	pool->calls = &parcels;
+	if (workloads[cell->workload].form == HANDED)
+		parcels_hand(cell->threads, pool);
+	else
+		parcels_send(cell->workload, pool);
+}
+
 static bool
 open_workers(const struct subject *subject, const struct cell *cell, struct pool *pool)
 {
+	const bool has_parcels = strcmp(subject->name, "parcel") == 0;
 	const enum form form = workloads[cell->workload].form;
 	struct worker_pool *p = aligned_alloc(RTE_CACHE_LINE_SIZE, sizeof(*p));
 	unsigned int i;
 
-	(void)subject;
 	if (p == NULL)
 		return false;
 	memset(p, 0, sizeof(*p));
 	pool->at = p;
-	if (!make_workers(p, cell)) {
+	if (!make_workers(p, cell) || (has_parcels && !make_parcels(p, cell))) {
 		end_workers(pool);
 		return false;
 	}
@@ -390,15 +557,24 @@ open_workers(const struct subject *subject, const struct cell *cell, struct pool
 			form == CLONES ? size_of(cell->workload) : form == HANDED && i == 0;
 		pool->user[i] = &p->user[i];
 	}
-	pool->calls = form == HANDED ? &desks : &packets;
-	if (form == HANDED)
-		desks_hand(cell->threads, pool);
-	else
+	if (has_parcels)
+		choose_parcels(cell, pool);
+	else if (form == HANDED || form == SENT)
+		choose_desks(cell, pool);
+	else {
+		pool->calls = &packets;
 		pool->play = packets_plays[cell->workload];
+	}
 	return true;
 }
 
 const struct subject worker_subject = {
 	.name = "worker",
-	.open = { [PACKETS] = open_workers, [CLONES] = open_workers, [HANDED] = open_workers },
+	.open = { [PACKETS] = open_workers, [CLONES] = open_workers, [SENT] = open_workers,
+		[HANDED] = open_workers },
+};
+
+const struct subject parcel_subject = {
+	.name = "parcel",
+	.open = { [SENT] = open_workers, [HANDED] = open_workers },
 };

@@ -45,6 +45,8 @@ const struct workload_facts workloads[WORKLOADS] = {
 	[CLONE4] = { "clone4", CLONES },
 	[PASS1] = { "pass1", PASSED },
 	[PASS32] = { "pass32", PASSED },
+	[SEND1] = { "send1", SENT },
+	[SEND32] = { "send32", SENT },
 	[HANDOVER] = { "handover", HANDED },
 };
 
@@ -52,7 +54,7 @@ const struct workload_facts workloads[WORKLOADS] = {
 static const struct subject *const known[] = {
 	&ring_mp_mc_subject, &lf_stack_subject, &stack_subject, &plain_subject,
 #ifdef WITH_LIBRARY
-	&pool_subject, &worker_subject,
+	&pool_subject, &worker_subject, &parcel_subject,
 #endif
 	&ring_sp_sc_subject, &ring_copy_subject, &none_subject, &twice_subject, &loses_subject,
 };
@@ -159,8 +161,8 @@ look_at_workloads(void)
 static const char usage[] =
 	"bench [OPTION ..] [-- WORD OF EAL ..]\n"
 	"  --workload NAMES  stk1,stk8,stk32,get1,get32,pkt1,pkt32,pkt240,clone1,clone4,\n"
-	"                    pass1,pass32,handover\n"
-	"  --subject NAMES   ring_mp_mc,lf_stack,stack,plain,none,pool,worker,mbufpool,..,\n"
+	"                    pass1,pass32,send1,send32,handover\n"
+	"  --subject NAMES   ring_mp_mc,lf_stack,stack,plain,none,pool,worker,parcel,mbufpool,..,\n"
 	"                    or another mempool handler\n"
 	"  --threads LIST    1,2,4\n"
 	"  --cache LIST      0,256\n"
@@ -329,8 +331,8 @@ choose_subjects(void)
 		add_subject(&mempool_subject, handlers[i]);
 }
 
-/* Whether the subject has this cell. Some forms have no cache, and two threads pass and hand
- * over. */
+/* Whether the subject has this cell. Some forms have no cache, and two threads pass, send and
+ * hand over. */
 static bool
 has_cell(const struct subject *s, const struct cell *cell)
 {
@@ -340,7 +342,9 @@ has_cell(const struct subject *s, const struct cell *cell)
 		return false;
 	if (cell->cache != 0 && (s->has_no_cache || form == BARE || form == HANDED))
 		return false;
-	return (form != PASSED || cell->threads == 2) && (form != HANDED || cell->threads <= 2);
+	if (form == PASSED || form == SENT)
+		return cell->threads == 2;
+	return form != HANDED || cell->threads <= 2;
 }
 
 /* ---- cells ---- */

@@ -82,6 +82,20 @@ clone_mbuf(void *user, union refs *refs)
 	return (refs->mbuf[0] = rte_pktmbuf_clone(u->source, u->mp)) != NULL;
 }
 
+static __rte_always_inline void
+send_mbufs(void *user, union refs *refs, unsigned int n)
+{
+	(void)user;
+	send_pointers(refs, n);
+}
+
+static __rte_always_inline bool
+receive_mbufs(void *user, union refs *refs, unsigned int n)
+{
+	(void)user;
+	return receive_pointers(refs, n);
+}
+
 /* Makes the packet that is cloned, with a byte in each of its segments. */
 static bool
 make_source(void *user)
@@ -173,6 +187,8 @@ static const struct calls mbufs = {
 	.alloc_bulk = alloc_mbufs,
 	.free = free_mbuf,
 	.clone = clone_mbuf,
+	.send = send_mbufs,
+	.receive = receive_mbufs,
 	.ready = make_source,
 	.rest = rest,
 	.mark = mark_mbuf,
@@ -181,6 +197,7 @@ static const struct calls mbufs = {
 	.close = end,
 };
 PACKET_PLAYS(mbufs)
+SEND_PLAYS(mbufs)
 
 /* ---- pools ---- */
 
@@ -246,7 +263,7 @@ static bool
 open_mempool(const struct subject *subject, const struct cell *cell, struct pool *pool)
 {
 	const enum form form = workloads[cell->workload].form;
-	const bool is_mbufs = form == PACKETS || form == CLONES;
+	const bool is_mbufs = form == PACKETS || form == CLONES || form == SENT;
 	const uint32_t cache = outer_cache(subject, cell->cache);
 	struct mempool_pool *p = calloc(1, sizeof(*p));
 	static unsigned int serial;
@@ -273,12 +290,14 @@ open_mempool(const struct subject *subject, const struct cell *cell, struct pool
 	pool->play = is_mbufs ? mbufs_plays[cell->workload] : objects_plays[cell->workload];
 	if (form == PASSED)
 		objects_pass(cell->workload, pool);
+	if (form == SENT)
+		mbufs_send(cell->workload, pool);
 	return true;
 }
 
 #define ON_A_MEMPOOL \
 	[ELEMENTS] = open_mempool, [PASSED] = open_mempool, [PACKETS] = open_mempool, \
-	[CLONES] = open_mempool
+	[CLONES] = open_mempool, [SENT] = open_mempool
 
 const struct subject mempool_subject = { .is_handler = true, .open = { ON_A_MEMPOOL } };
 

@@ -111,17 +111,12 @@ static const struct calls copies = {
 };
 HAND_PLAYS(copies)
 
-static bool
-make_places(struct ring_pool *p, unsigned int size, unsigned int flags)
+bool
+make_places(struct rte_ring *place[2], unsigned int size, unsigned int flags)
 {
-	static const char *const names[] = { "bench-there", "bench-back" };
-	unsigned int i;
-
-	for (i = 0; i < 2; i++) {
-		p->hand[0].place[i] = rte_ring_create_elem(names[i], size, 2, SOCKET_ID_ANY, flags);
-		p->hand[1].place[i] = p->hand[0].place[i];
-	}
-	return p->hand[0].place[0] != NULL && p->hand[0].place[1] != NULL;
+	place[0] = rte_ring_create_elem("bench-there", size, 2, SOCKET_ID_ANY, flags);
+	place[1] = rte_ring_create_elem("bench-back", size, 2, SOCKET_ID_ANY, flags);
+	return place[0] != NULL && place[1] != NULL;
 }
 
 bool
@@ -136,11 +131,12 @@ open_handed_ring(const struct subject *subject, const struct cell *cell, struct 
 		return false;
 	memset(p, 0, sizeof(*p));
 	pool->at = p;
-	if (!make_places(p, is_copied ? PACKET : sizeof(void *),
+	if (!make_places(p->hand[0].place, is_copied ? PACKET : sizeof(void *),
 		    is_single ? RING_F_SP_ENQ | RING_F_SC_DEQ : 0)) {
 		end(pool);
 		return false;
 	}
+	memcpy(p->hand[1].place, p->hand[0].place, sizeof(p->hand[0].place));
 	for (i = 0; i < cell->threads; i++) {
 		p->hand[i].packet = is_copied ? &p->hand[i].own : &p->packet;
 		pool->user[i] = &p->hand[i];

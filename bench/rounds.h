@@ -101,6 +101,37 @@ pass_round(const struct calls *c, void *user, union refs *refs, unsigned int n)
 	return 0;
 }
 
+static __rte_always_inline bool
+make_packets(const struct calls *c, void *user, union refs *refs, unsigned int n)
+{
+	return n == 1 ? c->alloc(user, refs, 0) : c->alloc_bulk(user, refs, n);
+}
+
+static __rte_always_inline uint64_t
+send_round(const struct calls *c, void *user, union refs *refs, unsigned int n)
+{
+	if (unlikely(!make_packets(c, user, refs, n))) {
+		rte_pause();
+		return n;
+	}
+	c->send(user, refs, n);
+	return 0;
+}
+
+/* Pointers to packets, or to what they are under way as: over the ring. */
+static __rte_always_inline void
+send_pointers(const union refs *refs, unsigned int n)
+{
+	while (rte_ring_enqueue_bulk(pass_ring, refs->object, n, NULL) == 0)
+		rte_pause();
+}
+
+static __rte_always_inline bool
+receive_pointers(union refs *refs, unsigned int n)
+{
+	return rte_ring_dequeue_bulk(pass_ring, refs->object, n, NULL) != 0;
+}
+
 /* To the other thread and back; in `alone` twice to oneself. */
 static __rte_always_inline uint64_t
 hand_round(const struct calls *c, void *user, bool alone)
@@ -137,6 +168,9 @@ one_round(const struct calls *c, enum workload w, void *user, union refs *refs)
 	case PASS1:
 	case PASS32:
 		return pass_round(c, user, refs, size_of(w));
+	case SEND1:
+	case SEND32:
+		return send_round(c, user, refs, size_of(w));
 	default:
 		return packet_round(c, user, refs, size_of(w));
 	}
@@ -177,6 +211,24 @@ take_passed(const struct calls *c, void *user, unsigned int n)
 		else
 			rte_pause();
 	} while (taken != 0 || !is_last);
+}
+
+/* Frees the packets of the other thread. */
+static __rte_always_inline void
+free_sent(const struct calls *c, void *user, unsigned int n)
+{
+	union refs refs;
+	unsigned int i;
+	bool is_last, has_come;
+
+	do {
+		is_last = __atomic_load_n(&is_over, __ATOMIC_SEQ_CST);
+		has_come = c->receive(user, &refs, n);
+		if (!has_come)
+			rte_pause();
+		for (i = 0; has_come && i < n; i++)
+			c->free(user, &refs, i);
+	} while (has_come || !is_last);
 }
 
 /* Hands the packet back, whenever it comes. */
@@ -222,6 +274,17 @@ hand_back(const struct calls *c, void *user)
 	{ \
 		pool->play = w == PASS1 ? calls##_PASS1 : calls##_PASS32; \
 		pool->answer = w == PASS1 ? calls##_take1 : calls##_take32; \
+	}
+
+#define SEND_PLAYS(calls) \
+	PLAY(calls, SEND1) \
+	PLAY(calls, SEND32) \
+	static void calls##_free1(void *user) { free_sent(&calls, user, size_of(SEND1)); } \
+	static void calls##_free32(void *user) { free_sent(&calls, user, size_of(SEND32)); } \
+	static void calls##_send(enum workload w, struct pool *pool) \
+	{ \
+		pool->play = w == SEND1 ? calls##_SEND1 : calls##_SEND32; \
+		pool->answer = w == SEND1 ? calls##_free1 : calls##_free32; \
 	}
 
 #define PACKET_PLAYS(calls) \

@@ -68,7 +68,7 @@ function ratio(key, to,    p, n) {
 # ---- who there is ----
 
 function needs(who) {
-    if (who == "pool" || who == "worker" || who ~ /^mbufpool/)
+    if (who == "pool" || who == "worker" || who == "parcel" || who ~ /^mbufpool/)
         return is_there["pool"] || is_there["worker"]
     if (who ~ /^rattle/)
         return is_there["rattle"]
@@ -218,6 +218,27 @@ function passed(    c, i, n, who) {
         printf "| a pool of mbufpool.h | 0 | %s | %s |\n", with_least("pass1 2 0 pool"),
             with_least("pass32 2 0 pool")
     printf "| no pool | 0 | %s | %s |\n", with_least("pass1 2 0 none"), with_least("pass32 2 0 none")
+    print ""
+    sent()
+}
+
+function sent_row(label, cache, who) {
+    if (needs(who))
+        printf "| %s | %d | %s | %s |\n", label, cache, with_least("send1 2 " cache " " who),
+            with_least("send32 2 " cache " " who)
+}
+
+function sent(    c, cache, i, n, who) {
+    print "| packets, made and freed | cache | lists of 1 | lists of 32 |"
+    print "|---|---|---|---|"
+    n = split("ring_mp_mc lf_stack stack mbufpool mbufpool_guard", who, " ")
+    for (c = 0; c < 2; c++) {
+        cache = c * 256
+        for (i = 1; i <= n; i++)
+            sent_row("mbufs on `" who[i] "`", cache, who[i])
+        sent_row("a worker's packets, over 64 desks", cache, "worker")
+        sent_row("a worker's packets, as parcels", cache, "parcel")
+    }
 }
 
 function handovers_row(label, who) {
@@ -234,6 +255,7 @@ function handovers() {
     handovers_row("`rte_ring`, the same, 648 bytes copied in and out", "ring_copy")
     handovers_row("a desk in plain C", "plain")
     handovers_row("a desk from C, `mbufpool_worker_offer` and `_take`", "worker")
+    handovers_row("a parcel, whose address goes over such an `rte_ring`", "parcel")
 }
 
 END {

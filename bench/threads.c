@@ -187,12 +187,13 @@ check_drain(const struct cell *cell)
 		fault("%u of %u elements could be got in the end", all, cell->population);
 }
 
-/* The mean of the threads that play; of a list that is passed what both threads took. */
+/* The mean of the threads that play; of a list that is passed or sent what both threads took. */
 static struct tally
 tally_of(const struct cell *cell, const struct pool *pool)
 {
 	const unsigned int playing = pool->answer != NULL ? 1 : cell->threads;
-	const double share = workloads[cell->workload].form == PASSED ? cell->threads : 1.0 / playing;
+	const enum form form = workloads[cell->workload].form;
+	const double share = form == PASSED || form == SENT ? cell->threads : 1.0 / playing;
 	struct tally all = { 0, 0, 0, 0 };
 	unsigned int i;
 
@@ -213,6 +214,7 @@ struct tally
 play_pool(const struct cell *cell, const struct pool *pool, uint64_t ns)
 {
 	const enum form form = workloads[cell->workload].form;
+	const bool has_ring = form == PASSED || form == SENT;
 	struct tally tally = { 0, 0, 0, 0 };
 	unsigned int i;
 
@@ -224,7 +226,7 @@ play_pool(const struct cell *cell, const struct pool *pool, uint64_t ns)
 	is_over = false;
 	for (i = 0; i < cell->threads; i++)
 		run.thread[i].user = pool->user[i];
-	if (form == PASSED) {
+	if (has_ring) {
 		pass_ring = rte_ring_create_elem("bench-pass", pool->calls->ref_size, RING,
 			SOCKET_ID_ANY, RING_F_SP_ENQ | RING_F_SC_DEQ);
 		if (pass_ring == NULL) {
@@ -233,7 +235,7 @@ play_pool(const struct cell *cell, const struct pool *pool, uint64_t ns)
 		}
 	}
 	in_threads(run_thread, 0, cell->threads);
-	if (form == PASSED)
+	if (has_ring)
 		rte_ring_free(pass_ring);
 	if (cell->is_checked && pool->calls->get != NULL)
 		check_drain(cell);

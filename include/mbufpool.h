@@ -9,9 +9,9 @@
  *                            by which worker it is out: what isn't out is refused, whoever puts it
  *   struct mbufpool_worker   packets, on a stack of elements that up to 64 threads use at once without
  *                            a lock: a worker has a cache and a table of 256 packets, with lengths,
- *                            chains, reference counts, clones, and desks over which a packet passes
- *                            to another worker; a pool of packets that is closed leaves a statement
- *                            (struct mbufpool_statement)
+ *                            chains, reference counts and clones; a packet passes to another worker
+ *                            over a desk, or over any queue as a parcel; a pool of packets that is
+ *                            closed leaves a statement (struct mbufpool_statement)
  *
  * What a call answers:
  *
@@ -54,11 +54,16 @@
  *              UINT64_MAX. It doesn't matter whether the worker that got it is ended by now. A value
  *              passes from thread to thread as a handle does, or by any exchange of theirs that orders
  *              memory. Else one value may be given to two callers.
+ *   parcels    (pools of packets alone) A parcel is received once, by a worker of the pool that sent it,
+ *              with the bytes that the send wrote. These may be copied elsewhere: then the copy is
+ *              received, and not the original too. A parcel passes from thread to thread as a handle
+ *              does, or by any exchange of theirs that orders memory, as an rte_ring does. Else one
+ *              element may be in two packets.
  *   process    malloc, realloc and free are of one allocator and give blocks aligned as C asks; no
  *              call is made from a signal handler, or in a forked child of a process with threads.
  *
  * Whatever numbers a caller passes to a worker's calls (slots that are free, freed packets, desks
- * that there are not, lengths too great), they are refused by name.
+ * that there are not, lengths too great), they are refused by name, but for what is written in a parcel.
  */
 #ifndef MBUFPOOL_H
 #define MBUFPOOL_H
@@ -117,6 +122,8 @@ enum mbufpool_refusal {
 	MBUFPOOL_NOT_OUT = 26,		/**< (guarded pools alone) what was to be put isn't out: it was put before,
 					 * or is none of the pool */
 	MBUFPOOL_NO_MAGAZINE = 30,	/**< (all pools but those of packets) no empty magazine was at the depot */
+	MBUFPOOL_NO_PART = 31,		/**< (a send alone) the worker has sent 2^56 - 1 packets more than it
+					 * received */
 };
 
 /**
@@ -148,7 +155,7 @@ static inline const char *mbufpool_strerror(uint32_t status)
 	case MBUFPOOL_TOO_MANY_SEGS:
 		return "too many segs: a packet has, or would have, more segments than the call allows";
 	case MBUFPOOL_NO_ROOM:
-		return "no room: too little room in the buffer";
+		return "no room: too little room in the buffer, or behind the parcel";
 	case MBUFPOOL_TOO_SHORT:
 		return "too short: the segment has fewer bytes, or the packet fewer segments";
 	case MBUFPOOL_NOT_DIRECT:
@@ -156,9 +163,9 @@ static inline const char *mbufpool_strerror(uint32_t status)
 	case MBUFPOOL_NOT_INDIRECT:
 		return "not indirect: the packet to detach uses its own buffer";
 	case MBUFPOOL_IN_USE:
-		return "in use: the element has another hold, or another handle a worker of the pool";
+		return "in use: the element has another hold, another handle a worker, or the parcel a packet";
 	case MBUFPOOL_NO_SUCH_PACKET:
-		return "no such packet: no packet stands in that slot";
+		return "no such packet: no packet stands in that slot, or is in the parcel";
 	case MBUFPOOL_PACKETS_FULL:
 		return "packets full: too few of the worker's 256 slots are free";
 	case MBUFPOOL_DESK_TAKEN:
@@ -177,6 +184,8 @@ static inline const char *mbufpool_strerror(uint32_t status)
 		return "not out: what was to be put was put before, or is none of the pool";
 	case MBUFPOOL_NO_MAGAZINE:
 		return "no magazine: no empty magazine was at the depot";
+	case MBUFPOOL_NO_PART:
+		return "no part: the worker has sent 2^56 - 1 packets more than it received";
 	default:
 		return "unknown status";
 	}
@@ -613,9 +622,10 @@ void mbufpool_guard_end(struct mbufpool_guard *worker);
  * the length of its buffer. It is direct where it uses its own element's buffer, and indirect where it
  * uses another's, as a clone's does. The library keeps these numbers; the buffers are the caller's.
  *
- * Each call from mbufpool_worker_alloc to mbufpool_worker_flush is one act of its worker. What is put
- * back, when the last hold of an element ends, goes through the worker's cache, as an element that is got.
- * `out` is written where the answer is 0.
+ * Each call from mbufpool_worker_alloc to mbufpool_worker_flush is one act of its worker, but for a send
+ * and a receive, which read words of the pool and write none. What is put back, when the last hold of an
+ * element ends, goes through the worker's cache, as an element that is got. `out` is written where the
+ * answer is 0.
  *
  * How a cache of the size `cache` serves:
  *
@@ -646,7 +656,7 @@ void mbufpool_guard_end(struct mbufpool_guard *worker);
  *
  * A worker has its packets in 256 places, and a packet is named by its slot: its place in the low 8 bits,
  * and above them how many packets went from that place before, modulo 2^24. A packet goes from its place
- * where it is freed, chained behind another or offered, and its slot stands for nothing then: it is
+ * where it is freed, chained behind another, offered or sent, and its slot stands for nothing then: it is
  * refused by MBUFPOOL_NO_SUCH_PACKET, also where the next packet stands in that place, until 2^24 packets
  * went from there and the slots begin again. So is every other number that is no packet's slot.
  *
@@ -654,7 +664,13 @@ void mbufpool_guard_end(struct mbufpool_guard *worker);
  * are after the calls of DPDK 21.11 that have these words behind rte_pktmbuf_; refcnt is after
  * rte_mbuf_refcnt_read, pkt_len and nb_segs after those fields of struct rte_mbuf, and flush after
  * rte_mempool_cache_flush. Unlike there a chain has 32 segments at most, and a reference count a limit of
- * the pool's. Desks are the library's own: DPDK passes mbufs from lcore to lcore over an rte_ring. */
+ * the pool's.
+ *
+ * DPDK passes an mbuf from lcore to lcore by its pointer, over an rte_ring. mbufpool_worker_send and
+ * mbufpool_worker_receive are the same with the packet's bytes in the caller's memory, and the pointer
+ * to these on the ring. An array of parcels, one for each element, needs no memory later: a packet is
+ * sent in that of its first element, which no other packet has for its own while it stands or is under
+ * way. Desks are the library's own, and need no ring. */
 
 /** A worker, or none where the pointer is null. The pointer is the library's. */
 struct mbufpool_worker { void *at; };
@@ -940,6 +956,125 @@ uint32_t mbufpool_worker_offer(struct mbufpool_worker *worker, uint32_t slot, ui
  */
 uint32_t mbufpool_worker_take(struct mbufpool_worker *worker, uint32_t desk, uint32_t *slot);
 
+/** A segment of a packet that is under way, as it is written: 16 bytes. */
+struct mbufpool_parcel_segment {
+	uint32_t element;	/**< its own element */
+	uint32_t base;		/**< the element whose buffer has its data, where `indirect` is 1; else 0 */
+	uint16_t off;		/**< where its data begins in the buffer, in bytes */
+	uint16_t len;		/**< how long its data is */
+	uint16_t buf;		/**< how long the buffer is */
+	uint16_t indirect;	/**< 1 where the buffer is another element's, as a clone's is; else 0 */
+};
+
+/**
+ * A packet that is under way, or none where `segments` is 0. Its segments lie right behind it, from
+ * `parcel + 1` on: so a struct of a parcel and an array of segments has room for as many.
+ */
+struct mbufpool_parcel { uint32_t segments; };
+
+/**
+ * Says how many bytes a parcel takes: 4, and 16 for each segment. It begins at any address that is
+ * divisible by 4.
+ *
+ * @param segments
+ *   For how many segments it has room: 32 are enough for any packet.
+ * @return
+ *   The bytes, 20 for one segment.
+ */
+static inline size_t mbufpool_parcel_size(uint32_t segments)
+{
+	return sizeof(struct mbufpool_parcel) + segments * sizeof(struct mbufpool_parcel_segment);
+}
+
+/**
+ * Takes a packet out of its place, and writes it as a parcel, whose segments lie where the caller says.
+ * mbufpool_worker_send has them behind the parcel.
+ *
+ * @param worker,slot,out
+ *   As mbufpool_worker_send has them.
+ * @param segments
+ *   Gets the segments.
+ * @param room
+ *   For how many segments there is room.
+ * @return
+ *   What mbufpool_worker_send answers.
+ */
+uint32_t mbufpool_worker_send_segments(struct mbufpool_worker *worker, uint32_t slot,
+	struct mbufpool_parcel *out, struct mbufpool_parcel_segment *segments, size_t room);
+
+/**
+ * Brings the packet of a parcel into the lowest free place, by segments that lie where the caller says.
+ * mbufpool_worker_receive has them behind the parcel.
+ *
+ * @param worker,parcel,slot
+ *   As mbufpool_worker_receive has them.
+ * @param segments
+ *   The segments, as they were written.
+ * @param n
+ *   How many they are: parcel->segments.
+ * @return
+ *   What mbufpool_worker_receive answers.
+ */
+uint32_t mbufpool_worker_receive_segments(struct mbufpool_worker *worker, struct mbufpool_parcel *parcel,
+	const struct mbufpool_parcel_segment *segments, size_t n, uint32_t *slot);
+
+/**
+ * Takes a packet out of its place, and writes it as a parcel, which any worker of the pool may receive.
+ *
+ * All that the packet holds goes with it: its elements, and a clone's hold of the buffer that it uses. No
+ * reference count changes, and its clones and its bases stay where they are. No memory is taken, and no
+ * lock. What is owed of a parcel stands at the head of this file, under "parcels".
+ *
+ * @param worker
+ *   The worker whose packet it is.
+ * @param slot
+ *   The packet; it goes from its place.
+ * @param out
+ *   Gets the parcel, with the segments behind it. It begins with zeros in `segments`, and has zeros
+ *   there again once it was received.
+ * @param room
+ *   For how many segments there is room behind `out`.
+ * @return
+ *   - 0: the packet is under way.
+ *   - MBUFPOOL_STRANGER
+ *   - MBUFPOOL_IN_USE: in `out` is a parcel that wasn't received.
+ *   - MBUFPOOL_NO_SUCH_PACKET
+ *   - MBUFPOOL_NO_ROOM: the packet has more segments than `room`.
+ *   - MBUFPOOL_NO_PART: the worker has sent 2^56 - 1 packets more than it received.
+ */
+static inline uint32_t mbufpool_worker_send(struct mbufpool_worker *worker, uint32_t slot,
+	struct mbufpool_parcel *out, uint32_t room)
+{
+	if (worker == NULL)
+		return MBUFPOOL_STRANGER;
+	return mbufpool_worker_send_segments(worker, slot, out, (struct mbufpool_parcel_segment *)(out + 1),
+		room);
+}
+
+/**
+ * Brings the packet of a parcel into the lowest free place, with all that it holds.
+ *
+ * @param worker
+ *   The worker whose packet it is then.
+ * @param parcel
+ *   The parcel, with its segments behind it; it has zeros in `segments` then.
+ * @param slot
+ *   Gets the packet's slot.
+ * @return
+ *   - 0: the packet stands.
+ *   - MBUFPOOL_STRANGER
+ *   - MBUFPOOL_NO_SUCH_PACKET: there is no parcel: `segments` is 0, since it was received, say.
+ *   - MBUFPOOL_PACKETS_FULL: no place is free. The parcel stays.
+ */
+static inline uint32_t mbufpool_worker_receive(struct mbufpool_worker *worker,
+	struct mbufpool_parcel *parcel, uint32_t *slot)
+{
+	if (worker == NULL)
+		return MBUFPOOL_STRANGER;
+	return mbufpool_worker_receive_segments(worker, parcel,
+		(const struct mbufpool_parcel_segment *)(parcel + 1), parcel->segments, slot);
+}
+
 /**
  * Says how many holds all packets of the pool have of the element of a packet's first segment.
  *
@@ -1032,9 +1167,10 @@ struct mbufpool_statement { void *at; };
 /**
  * Closes a pool of packets, and leaves what it found.
  *
- * Where every worker of the pool is there, that says where each element is: what the workers still have
- * is settled, so nothing need be freed or flushed before. Where some were ended before, it has the list
- * of the elements that are lost with them and nothing more (mbufpool_statement_lost).
+ * Where every worker of the pool is there, and each parcel was received, that says where each element is:
+ * what the workers still have is settled, so nothing need be freed or flushed before. Where a worker was
+ * ended before, or a parcel is lost or under way still, it has the list of the elements that are lost with
+ * them and nothing more (mbufpool_statement_lost).
  *
  * @param workers
  *   The handles of its workers, in any order; they have zeros then. A handle with zeros is passed over:
@@ -1390,6 +1526,24 @@ static inline uint32_t mbufpool_nullable_worker_take(struct mbufpool_worker *wor
 	return mbufpool_worker_take(worker, desk, slot);
 }
 
+static inline uint32_t mbufpool_nullable_worker_send_segments(struct mbufpool_worker *worker,
+	uint32_t slot, struct mbufpool_parcel *out, struct mbufpool_parcel_segment *segments,
+	size_t room)
+{
+	if (worker == NULL)
+		return MBUFPOOL_STRANGER;
+	return mbufpool_worker_send_segments(worker, slot, out, segments, room);
+}
+
+static inline uint32_t mbufpool_nullable_worker_receive_segments(struct mbufpool_worker *worker,
+	struct mbufpool_parcel *parcel, const struct mbufpool_parcel_segment *segments, size_t n,
+	uint32_t *slot)
+{
+	if (worker == NULL)
+		return MBUFPOOL_STRANGER;
+	return mbufpool_worker_receive_segments(worker, parcel, segments, n, slot);
+}
+
 static inline uint32_t mbufpool_nullable_worker_refcnt(struct mbufpool_worker *worker,
 	uint32_t slot, uint32_t *references)
 {
@@ -1517,6 +1671,8 @@ static inline void mbufpool_nullable_statement_end(struct mbufpool_statement *st
 #define mbufpool_worker_clone(...) mbufpool_nullable_worker_clone(__VA_ARGS__)
 #define mbufpool_worker_offer(...) mbufpool_nullable_worker_offer(__VA_ARGS__)
 #define mbufpool_worker_take(...) mbufpool_nullable_worker_take(__VA_ARGS__)
+#define mbufpool_worker_send_segments(...) mbufpool_nullable_worker_send_segments(__VA_ARGS__)
+#define mbufpool_worker_receive_segments(...) mbufpool_nullable_worker_receive_segments(__VA_ARGS__)
 #define mbufpool_worker_refcnt(...) mbufpool_nullable_worker_refcnt(__VA_ARGS__)
 #define mbufpool_worker_pkt_len(...) mbufpool_nullable_worker_pkt_len(__VA_ARGS__)
 #define mbufpool_worker_nb_segs(...) mbufpool_nullable_worker_nb_segs(__VA_ARGS__)

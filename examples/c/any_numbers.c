@@ -1,7 +1,8 @@
 /* any_numbers.c - every call of the library with any numbers: slots of packets that went, desks that
  * there are not, lengths too great, elements that were never got, handles without a worker, and NULL
  * for a handle. What is answered is held against what must be so, and at the end of a pool every
- * element can be had again. (A pool of values is put what was got and not put since, as is owed.)
+ * element can be had again. (A pool of values is put what was got and not put since, as is owed;
+ * parcels are sent and received in any_parcels.c.)
  *
  *     make any_numbers && ./any_numbers [CALLS [THREADS [SEED]]]
  *

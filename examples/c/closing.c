@@ -1,6 +1,7 @@
 /* closing.c - a pool is closed, and tells where each of its elements is: those on the common stack,
  * in a worker's cache, in packets and on desks. A second pool is closed after one of its workers was
- * ended with a packet and a cache: the elements that are lost with it are told.
+ * ended with a packet and a cache: the elements that are lost with it are told. So are those of a packet
+ * that was sent in a third pool, and that nobody received.
  *
  *     make closing && ./closing */
 #include <stdio.h>
@@ -66,13 +67,43 @@ static int are_whole(const struct mbufpool_counts *counts)
 		counts->available + counts->in_use == counts->population;
 }
 
+/* Sends a packet of two elements, which it tells ascending, in a parcel that nobody receives. */
+static void send_away(struct mbufpool_worker *worker, uint32_t *element)
+{
+	struct { struct mbufpool_parcel parcel; struct mbufpool_parcel_segment segment[2]; } away;
+	struct mbufpool_packet head, tail;
+
+	must(mbufpool_worker_alloc(worker, &head), "alloc");
+	must(mbufpool_worker_alloc(worker, &tail), "alloc");
+	must(mbufpool_worker_chain(worker, head.slot, tail.slot), "chain");
+	away.parcel.segments = 0;
+	must(mbufpool_worker_send(worker, head.slot, &away.parcel, 2), "send");
+	element[head.element > tail.element] = head.element;
+	element[head.element < tail.element] = tail.element;
+}
+
+/* Closes a pool that can't be settled, and prints which elements are lost. Returns how many. */
+static size_t close_with_loss(struct mbufpool_worker *worker, const char *with,
+	struct mbufpool_statement *ending, uint32_t *lost)
+{
+	struct mbufpool_counts counts;
+	size_t n, k;
+
+	must(mbufpool_worker_close(worker, WORKERS, ending), "close");
+	n = mbufpool_statement_lost(ending, lost, POPULATION);
+	printf("lost with %s:", with);
+	for (k = 0; k < n; k++)
+		printf(" %u", (unsigned)lost[k]);
+	printf("\n");
+	return mbufpool_statement_counts(ending, &counts) == MBUFPOOL_STRANGER ? n : 0;
+}
+
 int main(void)
 {
 	struct mbufpool_worker worker[WORKERS] = { MBUFPOOL_NONE };
 	struct mbufpool_statement ending = MBUFPOOL_NONE;
 	struct mbufpool_counts counts;
-	uint32_t lost[POPULATION];
-	size_t n, k;
+	uint32_t lost[POPULATION], sent[2];
 
 	open_pool(worker);
 	use_pool(worker);
@@ -89,13 +120,14 @@ int main(void)
 	open_pool(worker);
 	use_pool(worker);
 	mbufpool_worker_end(&worker[1]);
-	must(mbufpool_worker_close(worker, WORKERS, &ending), "close");
-	n = mbufpool_statement_lost(&ending, lost, POPULATION);
-	printf("lost with worker 2:");
-	for (k = 0; k < n; k++)
-		printf(" %u", (unsigned)lost[k]);
-	printf("\n");
-	if (n == 0 || mbufpool_statement_counts(&ending, &counts) != MBUFPOOL_STRANGER)
+	if (close_with_loss(worker, "worker 2", &ending, lost) == 0)
+		return 1;
+
+	open_pool(worker);
+	use_pool(worker);
+	send_away(&worker[2], sent);
+	if (close_with_loss(worker, "a parcel", &ending, lost) != 2 || lost[0] != sent[0] ||
+		lost[1] != sent[1])
 		return 1;
 	mbufpool_statement_end(&ending);
 	return 0;

@@ -37,6 +37,7 @@ static int is_refusal(uint32_t status)
 	case MBUFPOOL_MISUSED:
 	case MBUFPOOL_NOT_OUT:
 	case MBUFPOOL_NO_MAGAZINE:
+	case MBUFPOOL_NO_PART:
 		return 1;
 	}
 	return 0;

@@ -3,6 +3,7 @@ use Rattle.std.proofs.Common.{◌≡◌, ◌≢◌, ◌⊎◌, inl, inr, ℕ, su
 use Rattle.std.specs.Prelude.{⊤, MatchOption, option_and_then, ◌==◌}
 use Rattle.std.proofs.lemmas.Bool.{cases_eq, cases_lt, cond_both, eqb-true}
 use Rattle.commons.specs.Bag.{bag}
+use Rattle.commons.specs.Packets.{holds_of_packet}
 use Rattle.commons.specs.declared.limits.Limits.{Limits}
 use Rattle.step_core.specs.declared.step.Step.{Step}
 use Rattle.step_core.specs.declared.step.Step.TheVariants.{Reserve, Add, LoadHead, LoadLink, Cut, StoreLink, Push, Claim, Sole, Raise, Lower, Reset, Hold, PutIn, Open, Seize, TakeOut, Clear}
@@ -26,7 +27,7 @@ use Rattle.step_core.proofs.Shows.{is_in_hand}
 use Rattle.step_core.proofs.Telling.{cut_gets_all}
 use Rattle.step_core.proofs.Theorem.{play_is, played_row, makes_its_event, makes_its_view, changes_little, same_population, lawful_shows, keeps_law}
 use Rattle.ground.specs.Held.{Gives, EndsLast, NoStep, IsHeldIn, LeavesIt, IsHeldOver, HeldIsNotGiven}
-use Rattle.ground.specs.History.{Log, Move, Stepped, Split, Lent, Joined, MoveLeads, Led, taken_over}
+use Rattle.ground.specs.History.{Log, Move, Stepped, Split, Lent, Parcelled, Joined, MoveLeads, Led, HoldsGo, taken_over}
 use Rattle.ground.proofs.History.{histories_are_events}
 
 held_same : (p q : Place) → IsHeld p → Same p q → IsHeld q
@@ -304,6 +305,9 @@ limits_led l (Split id ∷ ms) w logs led =
 limits_led l (Lent id i ∷ ms) w logs led =
     let leads : MoveLeads (Lent id i) led.0 led.1 w logs = led.4 in
     ap (λ (u : World). u.limits) leads.3 ∙ limits_led l ms led.0 led.1 led.3
+limits_led l (Parcelled id p ∷ ms) w logs led =
+    let leads : MoveLeads (Parcelled id p) led.0 led.1 w logs = led.4 in
+    ap (λ (u : World). u.limits) leads.4 ∙ limits_led l ms led.0 led.1 led.3
 limits_led l (Joined id other ∷ ms) w logs led =
     let leads : MoveLeads (Joined id other) led.0 led.1 w logs = led.4 in
     ap (λ (u : World). u.limits) leads.3 ∙ limits_led l ms led.0 led.1 led.3
@@ -374,6 +378,28 @@ module _ (l : Limits) (earlier : List Move) (id i : ℕ) (o : Outcome) where
         tt,
         rest,
       )
+  over (Parcelled k p ∷ since) w logs led none =
+      let rest = over since led.0 led.1 led.3 none in
+      let held = last_held since led.0 led.1 led.3 rest in
+      let same = ap (λ (x : Limits). x.population) (limits_led l (since ++ Claimed_at) led.0 led.1 led.3) in
+      let some = in_pool since led.0 led.1 led.3 in
+      let before = lawful_shows led.0 led.2 in
+      let events = histories_are_events l (Parcelled k p ∷ (since ++ Claimed_at)) w logs led in (
+        (λ r b.
+            let goes = events.0 before.0 r before.1 b i (omega arith) in
+            pick (holds_of_packet p) i
+            (λ listed. holds_go _ _ _ (before.0 i) (r i) (goes.0 listed))
+            (λ other. held_same (before.0 i) (r i) (held before.0 before.1) (goes.1 other))),
+        tt,
+        rest,
+      )
+    where
+      holds_go : (n worker other : ℕ) (p q : Place) → HoldsGo n worker other p q → IsHeld q
+      holds_go n worker other (Held ws ds) (Held vs es) g = tt
+      holds_go n worker other (Held ws ds) Common g = g
+      holds_go n worker other (Held ws ds) (Hand v) g = g
+      holds_go n worker other Common q g = absurd g
+      holds_go n worker other (Hand v) q g = absurd g
   over (Joined k other ∷ since) w logs led none =
       let rest = over since led.0 led.1 led.3 none in
       let held = last_held since led.0 led.1 led.3 rest in

@@ -15,11 +15,12 @@ use Rattle.step_core.specs.Steps.{play}
 use Rattle.step_core.specs.World.{World, Packet, no_desk, desk_at, view_at, empty_view, worker_part}
 use Rattle.step_core.proofs.Handing.{SlotIs, slot_after}
 use Rattle.step_core.proofs.Theorem.{makes_its_event, changes_little}
-use Rattle.ground.specs.Parting.{less, lending, loan_of, both_views}
+use Rattle.ground.specs.Parting.{less, lending, loan_of, parting, parcel_view, both_views}
 use Rattle.ground.proofs.Lending.{goes_on, stays_put}
+use Rattle.ground.proofs.Sending.{holds_go_on}
 use Rattle.ground.proofs.TakingOver.{takes_over}
 use Rattle.ground.specs.declared.known.Known.{Known}
-use Rattle.ground.specs.History.{Log, Move, Stepped, Split, Lent, Joined, MoveLeads, Led, HistoriesAreEvents, DesksHaveWhatWasPutIn, put_in_last, log_of, logs_of, notes_of}
+use Rattle.ground.specs.History.{Log, Move, Stepped, Split, Lent, Parcelled, Joined, MoveLeads, Led, HistoriesAreEvents, DesksHaveWhatWasPutIn, put_in_last, log_of, logs_of, notes_of}
 
 -- one step more, of the seat that knows n afterwards
 pub led_on : (l : Limits) (h : List Move) (w : World) (ns : List Known) (id : ℕ) (m n : Known) (st : Step) (o : Outcome)
@@ -108,6 +109,18 @@ as_many l (Lent id i ∷ ms) w logs led =
       length-append (set led.0.views id left) (loan_of i ∷ []),
       length-set led.0.views id left,
     )
+as_many l (Parcelled id p ∷ ms) w logs led =
+    let leads : MoveLeads (Parcelled id p) led.0 led.1 w logs = led.4 in
+    let before = as_many l ms led.0 led.1 led.3 in
+    let left = parting p (view_at led.0.views id) in
+    let views = ap (λ (u : World). length u.views) leads.4 in
+    let sizes = ap (λ (xs : List Log). length xs) leads.5 in
+    omega (
+      arith,
+      length-append led.1 (([], []) ∷ []),
+      length-append (set led.0.views id left) (parcel_view p ∷ []),
+      length-set led.0.views id left,
+    )
 as_many l (Joined id other ∷ ms) w logs led =
     let leads : MoveLeads (Joined id other) led.0 led.1 w logs = led.4 in
     let before = as_many l ms led.0 led.1 led.3 in
@@ -145,6 +158,12 @@ histories_are_events l (Lent id i ∷ ms) w logs led =
       λ t r a b. goes_on led.0 id i some leads.2 t r a (subst (λ (u : World). ShowsTable u r) leads.3 b),
       histories_are_events l ms led.0 led.1 led.3,
     )
+histories_are_events l (Parcelled id p ∷ ms) w logs led =
+    let leads : MoveLeads (Parcelled id p) led.0 led.1 w logs = led.4 in
+    let some : 0 < (view_at led.0.views id).part = (let two = leads.0 in omega arith) in (
+      λ t r a b. holds_go_on led.0 id p some leads.2 leads.3 t r a (subst (λ (u : World). ShowsTable u r) leads.4 b),
+      histories_are_events l ms led.0 led.1 led.3,
+    )
 histories_are_events l (Joined id other ∷ ms) w logs led =
     let leads : MoveLeads (Joined id other) led.0 led.1 w logs = led.4 in
     let many = as_many l ms led.0 led.1 led.3 in
@@ -169,6 +188,9 @@ slot_led l (Split id ∷ ms) w logs led d =
 slot_led l (Lent id i ∷ ms) w logs led d =
     let leads : MoveLeads (Lent id i) led.0 led.1 w logs = led.4 in
     subst (λ (u : World). SlotIs d u (put_in_last d ms)) (sym leads.3) (slot_led l ms led.0 led.1 led.3 d)
+slot_led l (Parcelled id p ∷ ms) w logs led d =
+    let leads : MoveLeads (Parcelled id p) led.0 led.1 w logs = led.4 in
+    subst (λ (u : World). SlotIs d u (put_in_last d ms)) (sym leads.4) (slot_led l ms led.0 led.1 led.3 d)
 slot_led l (Joined id other ∷ ms) w logs led d =
     let leads : MoveLeads (Joined id other) led.0 led.1 w logs = led.4 in
     subst (λ (u : World). SlotIs d u (put_in_last d ms)) (sym leads.3) (slot_led l ms led.0 led.1 led.3 d)

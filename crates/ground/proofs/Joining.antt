@@ -16,7 +16,8 @@ use Rattle.step_core.specs.Law.{Lawful}
 use Rattle.step_core.specs.Headers.{HeaderLaw}
 use Rattle.ground.specs.declared.known.Known.{Known}
 use Rattle.ground.specs.Own.{AtRest, KnowsDesks}
-use Rattle.ground.specs.Parting.{both_views, both, spent_seat}
+use Rattle.ground.specs.Parting.{both_views, both, spent_seat, with_parcel}
+use Rattle.ground.specs.declared.known.Parcel.{Parcel}
 use Rattle.ground.specs.Closing.{lying_on}
 use Rattle.ground.specs.Rule.{Slot, Sat, Ruled, SeesDesks, view_in}
 use Rattle.ground.specs.StepAnswers.{chosen, looked}
@@ -185,5 +186,17 @@ chooses l slots id word me busy s r _ at _ = (
   keeps,
   tt,
   quiet l slots id me word (record me.0 { loan = element_linked_at word }) s r at busy refl refl refl (r.lies id me.0 at),
+  refl,
+)
+
+-- And so does a load after which the seat has noted something else of a packet: one with which the
+-- notes begin, or of the link of an element that is noted.
+pub notes : (l : Limits) (slots id word : ℕ) (me : Sat) (parcel : Parcel) → 0 < me.0.view.part →
+    Allows (Ruled l) slots id me word (λ n. n) (λ _ m'. m' ≡ with_parcel parcel me)
+notes l slots id word me parcel busy s r _ at _ = (
+  (with_parcel parcel me).0,
+  keeps,
+  tt,
+  quiet l slots id me word (with_parcel parcel me).0 s r at busy refl refl refl (r.lies id me.0 at),
   refl,
 )

@@ -24,7 +24,7 @@ has_place views k some =
     (cases_lt k (length views))
 
 -- a number that the new view has none of, each view has as before
-push_kept : (f : View → ℕ) (views : List View) (u : View) → f u ≡ f (empty_view 0) → (n : ℕ) →
+pub push_kept : (f : View → ℕ) (views : List View) (u : View) → f u ≡ f (empty_view 0) → (n : ℕ) →
     f (view_of (views ++ u ∷ []) n) ≡ f (view_of views n)
 push_kept f views u none zero = refl
 push_kept f views u none (suc m) = at views m
@@ -36,7 +36,7 @@ push_kept f views u none (suc m) = at views m
     at (v ∷ vs) (suc m) = at vs m
 
 -- the new view stands behind the others, which stand where they did
-push_last : (views : List View) (u : View) → view_at (views ++ u ∷ []) (length views) ≡ u
+pub push_last : (views : List View) (u : View) → view_at (views ++ u ∷ []) (length views) ≡ u
 push_last [] u = refl
 push_last (v ∷ vs) u = push_last vs u
 

@@ -2,6 +2,8 @@ pub mod Rules
 pub mod Owning
 pub mod Changing
 pub mod Lending
+pub mod Sending
+pub mod Noting
 pub mod TakingOver
 pub mod History
 pub mod Held

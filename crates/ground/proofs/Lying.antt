@@ -24,7 +24,7 @@ use Rattle.step_core.proofs.Rows.{when_played, given_played}
 use Rattle.step_core.proofs.Rules.{FourLaws}
 use Rattle.step_core.proofs.Theorem.{play_is, played_row}
 use Rattle.ground.specs.Closing.{lying_on, packet_on}
-use Rattle.ground.specs.History.{Log, Move, Stepped, Split, Lent, Joined, MoveLeads, Led, log_of, logs_of, notes_of}
+use Rattle.ground.specs.History.{Log, Move, Stepped, Split, Lent, Parcelled, Joined, MoveLeads, Led, log_of, logs_of, notes_of}
 use Rattle.ground.specs.Changing.{IsUnmoved}
 use Rattle.ground.specs.declared.known.Known.{Known}
 use Rattle.ground.specs.Lying.{opened_by, seized_by, opened_in, seized_in, count_on, notes_in, LieByNotes, NotesTellOfDesks}
@@ -325,6 +325,13 @@ module _ (d : ℕ) (f : Packet → ℕ) where
       let desks = ap (λ (u : World). count_on f (packet_on (desk_at u.desks d))) leads.3 in
       let a = ap (sum_by opened_log) leads.4 in
       let b = ap (sum_by seized_log) leads.4 in
+      omega (arith, sum_by_push opened_log led.1 ([], []), sum_by_push seized_log led.1 ([], []))
+  logs_tell l (Parcelled id p ∷ ms) w logs led =
+      let leads : MoveLeads (Parcelled id p) led.0 led.1 w logs = led.4 in
+      let before = logs_tell l ms led.0 led.1 led.3 in
+      let desks = ap (λ (u : World). count_on f (packet_on (desk_at u.desks d))) leads.4 in
+      let a = ap (sum_by opened_log) leads.5 in
+      let b = ap (sum_by seized_log) leads.5 in
       omega (arith, sum_by_push opened_log led.1 ([], []), sum_by_push seized_log led.1 ([], []))
   logs_tell l (Joined id other ∷ ms) w logs led =
       let leads : MoveLeads (Joined id other) led.0 led.1 w logs = led.4 in

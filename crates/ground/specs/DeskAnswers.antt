@@ -28,6 +28,7 @@ moved st o v lying slots m = (
     lying = lying;
     joined = m.0.joined;
     loan = m.0.loan;
+    parcel = m.0.parcel;
   },
   slots,
 )

@@ -14,7 +14,7 @@ use Rattle.step_core.specs.Shows.{ShowsTable}
 use Rattle.step_core.specs.Steps.{event_of, play}
 use Rattle.step_core.specs.Table.{Table}
 use Rattle.step_core.specs.World.{World, view_of, desk_at, shelf}
-use Rattle.ground.specs.History.{Log, Move, Stepped, Split, Lent, Joined, Led}
+use Rattle.ground.specs.History.{Log, Move, Stepped, Split, Lent, Parcelled, Joined, Led}
 
 -- a step with this outcome gives the element to a worker: a cut that won, of a list that has it
 abbrev pub Gives : ℕ → Step → Outcome → Type 0
@@ -33,6 +33,7 @@ NoStep P [] = ⊤
 NoStep P (Stepped id step outcome ∷ ms) = (P step outcome → ⊥) × NoStep P ms
 NoStep P (Split id ∷ ms) = NoStep P ms
 NoStep P (Lent id i ∷ ms) = NoStep P ms
+NoStep P (Parcelled id p ∷ ms) = NoStep P ms
 NoStep P (Joined id other ∷ ms) = NoStep P ms
 
 -- whatever table the world shows, somebody holds the element in it
@@ -46,6 +47,7 @@ LeavesIt i w (Stepped id step outcome) =
     × MatchOption (event_of w (suc id) step) ⊤ (λ e. (EventGets i e → ⊥) × (EventPuts i e → ⊥))
 LeavesIt i w (Split id) = ⊤
 LeavesIt i w (Lent id j) = ⊤
+LeavesIt i w (Parcelled id p) = ⊤
 LeavesIt i w (Joined id other) = ⊤
 
 -- These moves, the last first, followed on the earlier ones: in the world before each of them, and

@@ -1,11 +1,14 @@
 -- How the words of a pool came to be: by steps of the machine, each by one seat, by seats that were
--- split, elements that were lent, and seats that were joined. Seats are numbered from 0, and the
--- machine's workers from 1.
-use Rattle.std.specs.Prelude.{◌≡◌, ◌≢◌, ℕ, suc, ◌<◌, ◌≤◌, List, [], ◌∷◌, ◌++◌, Option, Some, None, length, map, slice_set, ⊤, ◌==◌, if◌then◌else◌}
+-- split, elements and packets that were lent, and seats that were joined. Seats are numbered from
+-- 0, and the machine's workers from 1.
+use Rattle.std.specs.Prelude.{◌≡◌, ◌≢◌, ℕ, suc, ◌<◌, ◌≤◌, List, [], ◌∷◌, ◌++◌, Option, Some, None, length, map, replicate, slice_set, ⊤, ◌==◌, if◌then◌else◌}
 use mathlib.Core.Option.{some}
 use lib.ListN.{get_elem?}
 use Rattle.commons.specs.Bag.{bag}
+use Rattle.commons.specs.Packets.{holds_of_packet}
 use Rattle.commons.specs.declared.limits.Limits.{Limits}
+use Rattle.step_core.specs.Bags.{Includes, SameBag}
+use Rattle.step_core.specs.Headers.{OwnsHeaders}
 use Rattle.step_core.specs.declared.step.Step.{Step}
 use Rattle.step_core.specs.declared.step.Step.TheVariants.{PutIn, Open, Seize, TakeOut}
 use Rattle.step_core.specs.declared.step.Outcome.{Outcome}
@@ -20,7 +23,7 @@ use Rattle.step_core.specs.World.{World, Packet, desk_at, view_at, empty_view, w
 use Rattle.ground.specs.declared.known.Known.{Known}
 use Rattle.ground.specs.Opening.{opening_alone}
 use Rattle.ground.specs.Own.{AtRest}
-use Rattle.ground.specs.Parting.{less, lending, loan_of, both_views}
+use Rattle.ground.specs.Parting.{less, lending, loan_of, parting, parcel_view, both_views}
 
 -- the steps that a seat noted, and those of the seats that were joined to it
 abbrev pub Log : Type 0
@@ -43,11 +46,13 @@ notes_of (Seize d) Won (Some p) = (Seize d, Found p) ∷ []
 notes_of step outcome slot = (step, outcome) ∷ []
 
 -- one thing that was done: a step of the machine, by a seat; a part of a seat that went to a new
--- one; an element of a seat's hand that went to a new one; two seats made one
+-- one; an element of a seat's hand, or a packet of a seat, that went to a new one; two seats made
+-- one
 pub data Move : Type 0 where
   Stepped : (seat : ℕ) (step : Step) (outcome : Outcome) → Move
   Split : (seat : ℕ) → Move
   Lent : (seat element : ℕ) → Move
+  Parcelled : (seat : ℕ) (packet : Packet) → Move
   Joined : (seat other : ℕ) → Move
 
 -- from the world w, of which these are the logs, the move leads to the world u and its logs
@@ -63,6 +68,13 @@ MoveLeads (Split id) w logs u after =
 MoveLeads (Lent id i) w logs u after =
     (2 ≤ (view_at w.views id).part) × AtRest (view_at w.views id) × (0 < bag (view_at w.views id).hand i)
     × (u ≡ record w { views = slice_set w.views id (lending i (view_at w.views id)) ++ loan_of i ∷ [] })
+    × (after ≡ logs ++ ([], []) ∷ [])
+MoveLeads (Parcelled id p) w logs u after =
+    (2 ≤ (view_at w.views id).part) × AtRest (view_at w.views id)
+    × Includes (view_at w.views id).holds (holds_of_packet p) × OwnsHeaders (view_at w.views id) p
+    × (u ≡ record w {
+      views = slice_set w.views id (parting p (view_at w.views id)) ++ parcel_view p ∷ [];
+    })
     × (after ≡ logs ++ ([], []) ∷ [])
 MoveLeads (Joined id other) w logs u after =
     (other ≢ id) × AtRest (view_at w.views id) × AtRest (view_at w.views other)
@@ -87,6 +99,21 @@ abbrev pub GoesToHand : (n i worker other : ℕ) → Table → Table → Type 0
 GoesToHand n i worker other t r =
     (j : ℕ) → j < n → Where j (i ∷ []) ((t j ≡ Hand worker) × (r j ≡ Hand other)) (Same (t j) (r j))
 
+-- n holds have gone from the first worker to the second, and the element is held as before else
+abbrev pub HoldsGo : (n worker other : ℕ) → Place → Place → Type 0
+HoldsGo n worker other (Held ws ds) (Held vs es) =
+    SameBag (replicate n other ++ ws) (replicate n worker ++ vs) × SameBag ds es
+HoldsGo n worker other (Held ws ds) Common = ⊥
+HoldsGo n worker other (Held ws ds) (Hand w) = ⊥
+HoldsGo n worker other Common q = ⊥
+HoldsGo n worker other (Hand w) q = ⊥
+
+-- of n elements, each of these has gone from the first worker's holds to the second's, as often as
+-- it is listed, and each other one is where it was
+abbrev pub GoToHolds : (n : ℕ) (xs : List ℕ) (worker other : ℕ) → Table → Table → Type 0
+GoToHolds n xs worker other t r =
+    (j : ℕ) → j < n → Where j xs (HoldsGo (bag xs j) worker other (t j) (r j)) (Same (t j) (r j))
+
 -- the worker whose something is, once what the second had is the first's, and the place of an
 -- element then
 abbrev pub heir : (worker other w : ℕ) → ℕ
@@ -103,9 +130,9 @@ abbrev pub TakesOver : (n worker other : ℕ) → Table → Table → Type 0
 TakesOver n worker other t r = (j : ℕ) → j < n → Same (taken_over worker other (t j)) (r j)
 
 -- Each step of a history is its one event of the table, by its seat's worker, or none; where a seat
--- is split, nothing moves; an element that is lent goes from that hand to the new one; and where
--- seats are joined, what the other had is the seat's; whichever tables the worlds before and after
--- are read as.
+-- is split, nothing moves; an element that is lent goes from that hand to the new one; what a
+-- packet that is lent holds goes from those holds to the new seat's; and where seats are joined,
+-- what the other had is the seat's; whichever tables the worlds before and after are read as.
 abbrev pub AreEvents : (l : Limits) (ms : List Move) (w : World) (logs : List Log) → Led l ms w logs → Type 0
 AreEvents l [] w logs led = ⊤
 AreEvents l (Stepped id step outcome ∷ ms) w logs led =
@@ -119,6 +146,10 @@ AreEvents l (Lent id i ∷ ms) w logs led =
     ((t r : Table) → ShowsTable led.0 t → ShowsTable w r →
     GoesToHand led.0.limits.population i (suc id) (suc (length led.0.views)) t r)
     × AreEvents l ms led.0 led.1 led.3
+AreEvents l (Parcelled id p ∷ ms) w logs led =
+    ((t r : Table) → ShowsTable led.0 t → ShowsTable w r →
+    GoToHolds led.0.limits.population (holds_of_packet p) (suc id) (suc (length led.0.views)) t r)
+    × AreEvents l ms led.0 led.1 led.3
 AreEvents l (Joined id other ∷ ms) w logs led =
     ((t r : Table) → ShowsTable led.0 t → ShowsTable w r →
     TakesOver led.0.limits.population (suc id) (suc other) t r)
@@ -130,6 +161,7 @@ put_in_last d [] = None
 put_in_last d (Stepped id step outcome ∷ ms) = put_by d step (put_in_last d ms)
 put_in_last d (Split id ∷ ms) = put_in_last d ms
 put_in_last d (Lent id i ∷ ms) = put_in_last d ms
+put_in_last d (Parcelled id p ∷ ms) = put_in_last d ms
 put_in_last d (Joined id other ∷ ms) = put_in_last d ms
 
 -- where a packet is in a desk's slot, it is the one that was put in last, by whichever seat

@@ -3,7 +3,8 @@
 -- both: an exchange of the one takes away neither the other nor an element's words from a worker
 -- that reads them. Before both stands a cache line that nobody ever writes: where a seat is cut in
 -- two or two are made one, the first word of the table is loaded, which no exchange takes away.
-use Rattle.std.specs.Prelude.{ℕ, ◌+◌, ◌-◌, ◌*◌, List, ◌∷◌, ◌++◌, map, replicate}
+use Rattle.std.specs.Prelude.{ℕ, ◌+◌, ◌-◌, ◌*◌, ◌<◌, List, ◌∷◌, ◌++◌, map, replicate}
+use Rattle.commons.specs.Bag.{bag}
 use Rattle.head_word.specs.Heads.{low_in, count_in, word_with}
 use Rattle.step_core.specs.declared.view.Head.{Head}
 use Rattle.step_core.specs.declared.view.Desk.{Desk}
@@ -67,6 +68,10 @@ count_word population i = links_at + population + i
 
 abbrev pub desk_word : ℕ → ℕ → ℕ
 desk_word population d = links_at + 2 * population + d
+
+-- the links of these elements are among so many words
+abbrev pub AreLinked : ℕ → List ℕ → Type 0
+AreLinked words xs = (i : ℕ) → 0 < bag xs i → link_word i < words
 
 -- the element whose link the word at this index is, the one whose count it is, and the desk whose
 -- word it is

@@ -2,12 +2,26 @@
 use Rattle.std.specs.Prelude.{◌≡◌, ◌+◌, ◌-◌, ℕ, max, List, [], ◌∷◌, ◌++◌, Option, None}
 use Rattle.atomic_table.specs.Table.{Me}
 use Rattle.commons.specs.declared.packet.Seg.{Seg}
+use Rattle.commons.specs.Packets.{hold_of, holds_of_packet, own_of_packet}
 use Rattle.commons.specs.declared.limits.PutRule.TheVariants.{Keep}
-use Rattle.step_core.specs.Bags.{without}
+use Rattle.step_core.specs.Bags.{without, minus, still_held}
 use Rattle.step_core.specs.declared.view.View.{View}
+use Rattle.step_core.specs.Views.{opened}
 use Rattle.step_core.specs.World.{empty_view, worker_part}
 use Rattle.ground.specs.declared.known.Known.{Known}
+use Rattle.ground.specs.declared.known.Parcel.{Parcel}
 use Rattle.ground.specs.Seats.{Seated}
+
+-- what is noted of a packet: of none, and of this one
+abbrev pub no_parcel : Parcel
+no_parcel = record { holds = []; own = [] }
+
+abbrev pub parcel_of : List Seg → Parcel
+parcel_of p = record { holds = holds_of_packet p; own = own_of_packet p }
+
+-- the seat, which has noted this
+abbrev pub with_parcel : Parcel → Me (Option (List Seg)) Known → Me (Option (List Seg)) Known
+with_parcel x m = (record m.0 { parcel = x }, m.1)
 
 -- all that was there, but for a worker's part
 abbrev pub less : View → View
@@ -27,6 +41,7 @@ newcomer n = record {
   lying = None;
   joined = [];
   loan = 0;
+  parcel = no_parcel;
 }
 
 -- all that was there, but for one element of the hand, and a part of 1
@@ -50,6 +65,7 @@ lent_part i n = record {
   lying = None;
   joined = [];
   loan = 0;
+  parcel = no_parcel;
 }
 
 -- so of the element that the seat has chosen
@@ -71,6 +87,60 @@ left_by_last n = left_by_lending (last_element n.view.hand) n
 
 abbrev pub lent_last : Known → Known
 lent_last n = lent_part (last_element n.view.hand) n
+
+-- all that an Open of this packet leaves, but for a part of 1: what the packet holds is gone, and
+-- its own elements aren't headers, nor is what is held no more
+abbrev pub parting : List Seg → View → View
+parting p v = record (opened v p) { part = v.part - 1 }
+
+-- a part of 1, which holds what the packet holds, has its own elements as headers, and names
+-- nothing else
+abbrev pub parcel_view : List Seg → View
+parcel_view p = record (empty_view 1) { holds = holds_of_packet p; headers = own_of_packet p }
+
+-- what the seat knows, but for that packet and that part, and for what lies on the desks
+abbrev pub left_by_parcel : List Seg → Known → Known
+left_by_parcel p n = record n { view = parting p n.view; lying = None; parcel = no_parcel }
+
+-- a part of 1 with this packet alone, which has taken no step
+abbrev pub lent_parcel : List Seg → Known → Known
+lent_parcel p n = record {
+  view = parcel_view p;
+  steps = [];
+  limits = n.limits;
+  lying = None;
+  joined = [];
+  loan = 0;
+  parcel = no_parcel;
+}
+
+-- so of the packet that the seat has noted
+abbrev pub left_by_noted : Known → Known
+left_by_noted n = record n {
+  view = record n.view {
+    holds = minus n.view.holds n.parcel.holds;
+    headers = still_held (minus n.view.headers n.parcel.own) (minus n.view.holds n.parcel.holds);
+    part = n.view.part - 1;
+  };
+  lying = None;
+  parcel = no_parcel;
+}
+
+abbrev pub lent_noted : Known → Known
+lent_noted n = record (lent_parcel [] n) {
+  view = record (empty_view 1) { holds = n.parcel.holds; headers = n.parcel.own };
+}
+
+-- the notes of a packet with these holds more; with an own element more, which is held too; and
+-- with a segment more
+abbrev pub with_holds : List ℕ → Parcel → Parcel
+with_holds xs x = record x { holds = x.holds ++ xs }
+
+abbrev pub with_own : ℕ → Parcel → Parcel
+with_own i x = record { holds = x.holds ++ i ∷ []; own = x.own ++ i ∷ [] }
+
+abbrev pub with_seg : Seg → Parcel → Parcel
+with_seg seg x = with_own seg.elem (with_holds (hold_of seg.base) x)
 
 -- what two views at rest name, with the parts of both
 abbrev pub both_views : View → View → View
@@ -132,4 +202,5 @@ spent_seat = record {
   lying = None;
   joined = [];
   loan = 0;
+  parcel = no_parcel;
 }

@@ -17,6 +17,7 @@ use Rattle.ground.specs.Changing.{changes_of, IsUnmoved}
 use Rattle.ground.specs.Closing.{lying_on}
 use Rattle.ground.specs.History.{Move, Led, logs_of}
 use Rattle.ground.specs.Layout.{words_of}
+use Rattle.ground.specs.Parting.{no_parcel}
 use Rattle.ground.specs.StackRule.{StackRule}
 use Rattle.ground.specs.CountRule.{CountRule}
 use Rattle.ground.specs.DeskRule.{DeskRule}
@@ -80,4 +81,5 @@ first_known l = record {
   lying = Some (replicate l.desks None);
   joined = [];
   loan = 0;
+  parcel = no_parcel;
 }

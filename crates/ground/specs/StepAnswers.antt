@@ -13,6 +13,7 @@ use Rattle.ground.specs.declared.known.Known.{Known}
 use Rattle.ground.specs.Changing.{KnowsChanges, KnowsOpening}
 use Rattle.ground.specs.Layout.{unpack, element_linked_at, element_counted_at}
 use Rattle.ground.specs.Own.{Owned, AtDesk, KnowsDesks}
+use Rattle.ground.specs.Parting.{no_parcel, with_parcel, with_holds, with_own}
 use Rattle.ground.specs.Rule.{Slot, Sat}
 use Rattle.ground.specs.Seats.{KnowsLength, KnowsEnd, KnowsCount, front_of, count_of, element_of}
 use Rattle.step_core.specs.World.{every_part}
@@ -27,6 +28,7 @@ noted st o m = (
     lying = m.0.lying;
     joined = m.0.joined;
     loan = m.0.loan;
+    parcel = m.0.parcel;
   },
   m.1,
 )
@@ -109,6 +111,19 @@ looked st m found m' =
 -- A load of an element's link chooses the element: the seat lends this one next.
 abbrev pub chosen : table.Step Slot → Sat → ℕ → Sat → Type 0
 chosen st m found m' = m' ≡ (record m.0 { loan = element_linked_at st.word }, m.1)
+
+-- A load of the word that nobody writes begins the notes of a packet: nothing is noted yet. A load
+-- of an element's link notes the element: as the base of a segment, or as a segment's own.
+abbrev pub begun : table.Step Slot → Sat → ℕ → Sat → Type 0
+begun st m found m' = m' ≡ with_parcel no_parcel m
+
+abbrev pub base_noted : table.Step Slot → Sat → ℕ → Sat → Type 0
+base_noted st m found m' =
+    m' ≡ with_parcel (with_holds (element_linked_at st.word ∷ []) m.0.parcel) m
+
+abbrev pub own_noted : table.Step Slot → Sat → ℕ → Sat → Type 0
+own_noted st m found m' =
+    m' ≡ with_parcel (with_own (element_linked_at st.word) m.0.parcel) m
 
 -- ---- the counts: the element is the one whose count the word is
 

@@ -8,7 +8,8 @@ ghost use Rattle.ground.specs.Ruling.{WordsAreLedTo};
 
 /// Between any two operations the words, the slots and what all seats know are a lawful world of
 /// the machine, with its law of headers, to which the machine's own steps led from the world at the
-/// start, each by one seat that has noted it, with seats split and joined in between.
+/// start, each by one seat that has noted it, with seats split, elements and packets lent, and seats
+/// joined in between.
 pub fn the_words_are_led_to()
     ensures { WordsAreLedTo }
 {}

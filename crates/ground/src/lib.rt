@@ -10,6 +10,7 @@ mod head;
 pub mod known;
 pub mod laws;
 mod life;
+mod parcels;
 mod plays;
 pub mod pool;
 mod rows;

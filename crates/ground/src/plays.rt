@@ -106,6 +106,40 @@ impl Split<Known> for LendsLast {
     ghost right = { lent_last };
 }
 
+pub(crate) struct Begins;
+
+impl Play<Option<Packet>, Known> for Begins {
+    ghost use Rattle.ground.specs.StepAnswers.{begun};
+
+    ghost then = { begun };
+}
+
+pub(crate) struct NotesBase;
+
+impl Play<Option<Packet>, Known> for NotesBase {
+    ghost use Rattle.ground.specs.StepAnswers.{base_noted};
+
+    ghost then = { base_noted };
+}
+
+pub(crate) struct NotesOwn;
+
+impl Play<Option<Packet>, Known> for NotesOwn {
+    ghost use Rattle.ground.specs.StepAnswers.{own_noted};
+
+    ghost then = { own_noted };
+}
+
+pub(crate) struct LendsPacket;
+
+impl Split<Known> for LendsPacket {
+    ghost use Rattle.ground.specs.Parting.{left_by_noted, lent_noted};
+
+    ghost left = { left_by_noted };
+
+    ghost right = { lent_noted };
+}
+
 impl Join<Known> for Parts {
     ghost use Rattle.ground.specs.Parting.{both, spent_seat};
 

@@ -10,6 +10,7 @@ pub mod FreshLemmas
 pub mod MemberLemmas
 pub mod OwnLemmas
 pub mod PacketCases
+pub mod ParcelLemmas
 pub mod PlaceLemmas
 pub mod RefusedLemmas
 pub mod ResizeLemmas

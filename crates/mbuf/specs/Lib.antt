@@ -6,6 +6,7 @@ pub mod Lengths
 pub mod Members
 pub mod Own
 pub mod PacketRules
+pub mod Parcels
 pub mod Refused
 pub mod Sharing
 pub mod Slots

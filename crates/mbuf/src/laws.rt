@@ -6,6 +6,7 @@ ghost use Rattle.mbuf.specs.Acts.{Performs, Reply};
 ghost use Rattle.mbuf.specs.declared.acts.Act.{Act};
 ghost use Rattle.mbuf.specs.Members.{Member, slots};
 ghost use Rattle.mbuf.specs.Own.{Own, OwnWith};
+ghost use Rattle.mbuf.specs.Parcels.{BringingInLeavesOwn, StandingPacketsAreHad, TakingOutLeavesOwn};
 ghost use Rattle.mbuf.specs.Slots.{LeavesOtherSlots};
 ghost use Rattle.mbuf.specs.Twins.{OwnTwin, TwinMember};
 
@@ -46,4 +47,22 @@ pub fn twins_stay_own()
 pub fn an_act_leaves_the_slots_it_does_not_name()
     ensures { (act : Act) (before after : Member) (calls : List Call) (reply : Reply) →
         Performs act before calls reply after → LeavesOtherSlots act reply before after }
+{}
+
+/// A worker has all that the packets hold that stand in its slots, and their own elements are
+/// headers of it.
+pub fn a_standing_packet_is_its_workers()
+    ensures { StandingPacketsAreHad }
+{}
+
+/// Where a packet is taken out, with all that it holds, the others are the worker's own, with
+/// whatever guests.
+pub fn taking_a_packet_out_leaves_the_others_own()
+    ensures { TakingOutLeavesOwn }
+{}
+
+/// Where a packet is brought in, with all that it holds, it and the others are the worker's own,
+/// with whatever guests.
+pub fn bringing_a_packet_in_leaves_all_own()
+    ensures { BringingInLeavesOwn }
 {}

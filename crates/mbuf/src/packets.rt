@@ -7,6 +7,7 @@ ghost use Rattle.mbuf.specs.Members.{slots};
 mod foreign;
 mod freeing;
 mod making;
+mod parcels;
 mod passing;
 mod sharing;
 mod sizes;

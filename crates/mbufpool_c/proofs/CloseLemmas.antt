@@ -7,10 +7,9 @@ use Rattle.std.proofs.lemmas.List.Elements.{All-from_get_or, All-get_or}
 use Rattle.std.proofs.Math.Seq.{map-set_same}
 use Rattle.std.specs.Prelude.{Some, flat_map, slice_index_or}
 use Rattle.ground.specs.Seats.{Grounded}
-use Rattle.word_pool.specs.Lost.{AreLeft, AreLostOf}
 use Rattle.word_pool.specs.Workers.{WorkerState}
 use Rattle.mbufpool_c.specs.Labelled.{Labelled}
-use Rattle.mbufpool_c.specs.Closes.{AreApart, AreEmpty, Closes, HasClosed, HasOneOf, HaveSame, IsSettled, worker_number, numbers_in, values_of}
+use Rattle.mbufpool_c.specs.Closes.{AreApart, AreEmpty, Closes, HasClosed, HasOneOf, HaveSame, IsLost, IsSettled, worker_number, numbers_in, values_of}
 use Rattle.mbufpool_c.specs.inside.Shared.{AreAbove}
 use Rattle.mbufpool_c.specs.declared.ending.Ending.{Ending}
 use Rattle.mbufpool_c.specs.declared.worker_handle.WorkerHandle.{WorkerHandle}
@@ -89,7 +88,7 @@ pub empty_of : (xs : List ℕ) → length xs ≡ 0 → xs ≡ []
 empty_of [] none = refl
 empty_of (x ∷ xs) none = absurd (omega (arith, none))
 
--- all workers are settled
+-- workers of whom nobody is missing are settled
 pub closed_all : (numbers : List ℕ) (g : Grounded) (ms : List WorkerState) (missing : List ℕ) (e : Ending) →
     AreAbove g 0 ms missing → missing ≡ [] → length ms ≡ length numbers → AreApart numbers missing →
     IsSettled g [] ms e → HasClosed g numbers e
@@ -103,21 +102,21 @@ closed_all numbers g ms missing e are none as_many apart settled = record {
 }
 
 settled_some : (g : Grounded) (ms : List WorkerState) (missing : List ℕ) (e : Ending) → 0 < length missing →
-    e.statement ≡ None → AreLeft g missing ms → AreLostOf g missing ms e.lost.items → IsSettled g missing ms e
-settled_some g ms [] e some none left lost = absurd (omega (arith, some))
-settled_some g ms (w ∷ missing) e some none left lost = (none, left, lost)
+    IsLost g missing ms e → IsSettled g missing ms e
+settled_some g ms [] e some lost = absurd (omega (arith, some))
+settled_some g ms (w ∷ missing) e some lost = lost
 
--- those who are left are settled
+-- and so are those who are left
 pub closed_some : (numbers : List ℕ) (g : Grounded) (ms : List WorkerState) (missing : List ℕ) (e : Ending) →
     AreAbove g 0 ms missing → 0 < length missing → length ms ≡ length numbers → AreApart numbers missing →
-    e.statement ≡ None → AreLeft g missing ms → AreLostOf g missing ms e.lost.items → HasClosed g numbers e
-closed_some numbers g ms missing e are some as_many apart none left lost = record {
+    IsLost g missing ms e → HasClosed g numbers e
+closed_some numbers g ms missing e are some as_many apart lost = record {
   workers = ms;
   missing = missing;
   as_many = as_many;
   apart = apart;
   all = omega (arith, are.as_many);
-  settled = settled_some g ms missing e some none left lost;
+  settled = settled_some g ms missing e some lost;
 }
 
 -- a worker that is in handles is in those that have the same

@@ -6,6 +6,8 @@ mod SharedLemmas
 mod Handles
 mod LabelLemmas
 mod LooseSend
+mod ParcelLemmas
+mod SeatTokens
 mod OpenLemmas
 mod PoolHandles
 mod PoolLemmas

@@ -11,13 +11,13 @@ use Rattle.commons.specs.declared.limits.Limits.{Limits}
 use Rattle.ground.specs.Seats.{Grounded}
 use Rattle.snapshot.specs.Lost.{IsAscending}
 use Rattle.word_pool.specs.Lost.{AreLeft}
-use Rattle.word_pool.specs.Workers.{WorkerState, AreWorkers, IsWorker, members_of}
+use Rattle.word_pool.specs.Workers.{WorkerState, AreCrew, IsAt, members_of}
 use Rattle.mbufpool_c.specs.inside.Shared.{AreAbove, IsGathered, numbers_of}
 
 -- no worker is above the last
 pub none_above : (g : Grounded) (k : ℕ) → k ≡ g.limits.workers → AreAbove g k [] []
 none_above g k last = record {
-  each = All-nil (IsWorker g);
+  each = All-nil (IsAt g);
   above = All-nil (λ w. k < w);
   below = All-nil (λ w. w ≤ g.limits.workers);
   ascending = λ i j d before low. absurd (omega (arith, low));
@@ -30,10 +30,10 @@ none_above g k last = record {
 
 -- the worker of the number below is there
 pub one_there : (g : Grounded) (k n : ℕ) (ms : List WorkerState) (missing : List ℕ) (m : WorkerState) →
-    n ≡ k + 1 → n ≤ g.limits.workers → AreAbove g n ms missing → IsWorker g m → m.member.number ≡ n →
+    n ≡ k + 1 → n ≤ g.limits.workers → AreAbove g n ms missing → IsAt g m → m.member.number ≡ n →
     AreAbove g k (m ∷ ms) missing
 one_there g k n ms missing m next low are of is = record {
-  each = All-cons (IsWorker g) m ms of are.each;
+  each = All-cons (IsAt g) m ms of are.each;
   above =
       All-cons (λ w. k < w) m.member.number (numbers_of ms) (omega (arith, next, is))
       (All-weaker (λ w. n < w) (λ w. k < w) (λ w h. omega (arith, h, next)) (numbers_of ms) are.above);
@@ -90,7 +90,7 @@ numbers_are [] = refl
 numbers_are (m ∷ ms) = ap (λ (ws : List ℕ). m.member.number ∷ ws) (numbers_are ms)
 
 -- where none is missing, they are all
-pub all_there : (g : Grounded) (ms : List WorkerState) (missing : List ℕ) → AreAbove g 0 ms missing → missing ≡ [] → AreWorkers g ms
+pub all_there : (g : Grounded) (ms : List WorkerState) (missing : List ℕ) → AreAbove g 0 ms missing → missing ≡ [] → AreCrew g ms
 all_there g ms missing are none = record {
   numbers =
       numbers_are ms ∙ are.full none
@@ -138,7 +138,7 @@ pub gathered_more : (g tag : Grounded) (k n : ℕ) (ms new : List WorkerState) (
 gathered_more g tag k n ms new missing gone same next low are (inl (m, of, is, more, kept)) =
     subst (λ (xs : List WorkerState). AreAbove g k xs gone) (sym (ap reverse more ∙ turned ms m))
     (subst (λ (ws : List ℕ). AreAbove g k (m ∷ reverse ms) ws) (sym kept)
-    (one_there g k n (reverse ms) missing m next low are (subst (λ (h : Grounded). IsWorker h m) same of) is))
+    (one_there g k n (reverse ms) missing m next low are (subst (λ (h : Grounded). IsAt h m) same of) is))
 gathered_more g tag k n ms new missing gone same next low are (inr (kept, more)) =
     subst (λ (xs : List WorkerState). AreAbove g k (reverse xs) gone) (sym kept)
     (subst (λ (ws : List ℕ). AreAbove g k (reverse ms) ws) (sym more) (one_missing g k n (reverse ms) missing next low are))

@@ -3,11 +3,12 @@ use Rattle.std.specs.Prelude.{ℕ, ◌≡◌, ◌≢◌, ◌+◌, ◌⊎◌, Lis
 use Rattle.commons.specs.declared.refusal.Refusal.TheVariants.{InUse, OutOfMemory, StrangerShare}
 use Rattle.commons.specs.Refusals.{number_of}
 use Rattle.ground.specs.Seats.{Grounded}
-use Rattle.pool_model.specs.declared.statement.Statement.{Statement}
+use Rattle.pool_statement.specs.declared.statement.Statement.{Statement}
 use Rattle.pool_model.specs.Statements.{ListsEachOnce, PlacesEachOnce}
 use Rattle.book.specs.Listing.{ListsPackets}
+use Rattle.step_core.specs.World.{every_part}
 use Rattle.word_pool.specs.Lost.{AreLeft, AreLostOf}
-use Rattle.word_pool.specs.Workers.{WorkerState, AreWorkers, IsStatementOfWorkers, IsWorker}
+use Rattle.word_pool.specs.Workers.{WorkerState, AreWorkers, IsAt, IsStatementOfWorkers, parts_of}
 use Rattle.mbufpool_c.specs.Labelled.{Labelled}
 use Rattle.mbufpool_c.specs.declared.ending.Ending.{Ending}
 use Rattle.mbufpool_c.specs.declared.worker_handle.WorkerHandle.{WorkerHandle}
@@ -41,21 +42,30 @@ AreApart ws vs = All (λ w. All (λ v. v ≢ w) vs) ws
 abbrev pub misused : ℕ
 misused = 25
 
--- The workers ms of this ground, beside whom these are missing, are settled. Where nobody is, what
--- they left is the pool's statement: it lists each element exactly once, what is available and what
--- is in use are the population, and each packet has a place of its own. Else it is the list of
--- the elements that are lost with those who are missing.
-abbrev pub IsSettled : Grounded → List ℕ → List WorkerState → Ending → Type 0
-IsSettled g [] ms e = (s : Statement) × (e.statement ≡ Some s) × (e.lost.items ≡ [])
+-- What all workers of this ground left is the pool's statement: it lists each element exactly once,
+-- what is available and what is in use are the population, and each packet has a place of its own.
+abbrev pub IsStated : Grounded → List WorkerState → Ending → Type 0
+IsStated g ms e = (s : Statement) × (e.statement ≡ Some s) × (e.lost.items ≡ [])
     × AreWorkers g ms × IsStatementOfWorkers g ms s
     × ListsEachOnce s × PlacesEachOnce g.limits s × ListsPackets g.limits s
-IsSettled g (w ∷ missing) ms e = (e.statement ≡ None) × AreLeft g (w ∷ missing) ms
-    × AreLostOf g (w ∷ missing) ms e.lost.items
+
+-- What workers of this ground left, beside whom these are missing, is the list of the elements that
+-- are lost: with those who are missing, and with packets under way.
+abbrev pub IsLost : Grounded → List ℕ → List WorkerState → Ending → Type 0
+IsLost g missing ms e = (e.statement ≡ None) × AreLeft g missing ms × AreLostOf g missing ms e.lost.items
+
+-- The workers ms of this ground, beside whom these are missing, are settled. Where nobody is and
+-- each packet that was sent was received, so that they have every part of the pool, its statement is
+-- left, else the list of what is lost.
+abbrev pub IsSettled : Grounded → List ℕ → List WorkerState → Ending → Type 0
+IsSettled g [] ms e =
+    IsStated g ms e ⊎ (((parts_of ms ≡ every_part g.limits) → ⊥) × IsLost g [] ms e)
+IsSettled g (w ∷ missing) ms e = IsLost g (w ∷ missing) ms e
 
 -- one of these handles has a worker of this ground: the ground's words and limits are that worker's
 abbrev pub HasOneOf : Grounded → List WorkerHandle → Type 0
 HasOneOf g handles =
-    (m : Labelled) × (k : ℕ) × (slice_index_or (values_of handles) k None ≡ Some m) × IsWorker g m.worker
+    (m : Labelled) × (k : ℕ) × (slice_index_or (values_of handles) k None ≡ Some m) × IsAt g m.worker
 
 -- Workers of this ground are settled, as many as there were in handles. Each worker whose number
 -- one of these had is among them: none of those who are missing has it.

@@ -4,6 +4,8 @@ pub mod KeptPool
 pub mod KeptWorker
 pub mod Labelled
 pub mod Labels
+pub mod Carried
+pub mod Parcels
 pub mod Lends
 pub mod Owned
 pub mod Pools

@@ -2,7 +2,7 @@
 use Rattle.std.specs.Prelude.{ℕ, ◌≡◌, ◌<◌, ◌⊎◌, List, Option, Some, None, length, slice_index_or}
 use Rattle.commons.specs.declared.refusal.Refusal.TheVariants.{StrangerShare}
 use Rattle.commons.specs.Refusals.{number_of}
-use Rattle.pool_model.specs.declared.statement.Statement.{Statement}
+use Rattle.pool_statement.specs.declared.statement.Statement.{Statement}
 use Rattle.mbufpool_c.specs.declared.ending.Ending.{Ending}
 use Rattle.mbufpool_c.specs.declared.told.Counts.{Counts}
 

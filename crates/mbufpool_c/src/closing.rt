@@ -2,9 +2,9 @@
 
 ghost use Rattle.std.specs.Prelude.{◌≡◌, ◌≢◌, ◌<◌, ◌≤◌, ◌+◌, ◌++◌, ◌∷◌, [], All, None, Some, IfOk, IfErr, IfSome, IsTrue, length, vec_capacity, vec_len};
 ghost use Rattle.commons.specs.Refusals.{number_of};
-ghost use Rattle.word_pool.specs.Workers.{AreWorkers, IsWorker};
+ghost use Rattle.word_pool.specs.Workers.{AreCrew, AreWorkers, IsAt};
 ghost use Rattle.word_pool.specs.Lost.{AreLeft, AreLostOf};
-ghost use Rattle.mbufpool_c.specs.Closes.{AreApart, AreEmpty, Closes, HasClosed, HasOneOf, HaveSame, IsEnded, IsRefused, IsSettled, RefusesClose, worker_number, numbers_in};
+ghost use Rattle.mbufpool_c.specs.Closes.{AreApart, AreEmpty, Closes, HasClosed, HasOneOf, HaveSame, IsEnded, IsRefused, IsSettled, IsStated, RefusesClose, worker_number, numbers_in};
 ghost use Rattle.mbufpool_c.specs.Labelled.{Labelled};
 ghost use Rattle.mbufpool_c.specs.inside.Shared.{AreAbove, IsGathered};
 ghost use Rattle.mbufpool_c.specs.inside.Rooms.{IsRoom};
@@ -85,7 +85,7 @@ fn shared_of(
     ensures same { handle.new.value ≡ handle.old.value }
     ensures none { handle.old.value ≡ None → result ≡ None }
     ensures of { IfSome result (λ found. IfOk found (λ shared.
-        (m : Labelled) × (handle.old.value ≡ Some m) × IsWorker shared.value m.worker)) }
+        (m : Labelled) × (handle.old.value ≡ Some m) × IsAt shared.value m.worker)) }
 {
     match handle.take(alloc) {
         None => None,
@@ -296,7 +296,7 @@ fn settle_all(
     place: Box<Ending>,
 ) -> Result<Box<Ending>, u32>
     requires { AreWorkers ground workers.items }
-    ensures settled { IfOk result (λ ending. IsSettled ground [] workers.items ending.value) }
+    ensures settled { IfOk result (λ ending. IsStated ground workers.items ending.value) }
     ensures memory { IfErr result (λ status. status ≡ number_of Refusal.OutOfMemory) }
 {
     match pool::settled(alloc, ground, workers) {
@@ -311,8 +311,8 @@ fn settle_all(
     }
 }
 
-/// Settles the pool of these words, which has these workers, and whose others are missing, and
-/// tells which elements are lost.
+/// Settles the pool of these words, which has these workers, whose others are missing or whose
+/// packets under way weren't received, and tells which elements are lost.
 ///
 /// Refused `OutOfMemory` where memory was refused.
 fn settle_without(
@@ -339,6 +339,27 @@ fn settle_without(
     }
 }
 
+/// Settles the pool of these words, of which no worker is missing: tells its statement or, where
+/// packets are under way, which elements are lost with them.
+///
+/// Refused `OutOfMemory` where memory was refused.
+fn settle_crew(
+    alloc: Global,
+    ground: Ground,
+    workers: Vec<WordWorker>,
+    place: Box<Ending>,
+) -> Result<Box<Ending>, u32>
+    requires crew { AreCrew ground workers.items }
+    requires left { AreLeft ground [] workers.items }
+    ensures settled { IfOk result (λ ending. IsSettled ground [] workers.items ending.value) }
+    ensures memory { IfErr result (λ status. status ≡ number_of Refusal.OutOfMemory) }
+{
+    if pool::all_received(&ground, workers.as_slice()) {
+        return settle_all(alloc, ground, workers, place);
+    }
+    settle_without(alloc, ground, workers, &[], place)
+}
+
 /// Settles the pool of these words, which has these workers, as many as these numbers, none of
 /// which is missing.
 ///
@@ -362,7 +383,7 @@ fn settle(
         return Err(MISUSED);
     }
     if missing.len() == 0 {
-        return settle_all(alloc, ground, workers, place);
+        return settle_crew(alloc, ground, workers, place);
     }
     settle_without(alloc, ground, workers, missing.as_slice(), place)
 }
@@ -462,8 +483,8 @@ fn close(
 }
 
 /// Closes the pool of the workers in these handles, in any order, and tells what it left: its
-/// statement or, where workers were ended before, the elements that are lost with them. The handles
-/// have no workers then. An ending that was in `out` is lost.
+/// statement or, where workers were ended before or packets are under way, the elements that are lost
+/// with them. The handles have no workers then. An ending that was in `out` is lost.
 ///
 /// Refused, in this order: `StrangerShare` where there is no worker, or one of another pool than
 /// the first's; `InUse` where a worker of the pool is in another handle; `OutOfMemory` where there

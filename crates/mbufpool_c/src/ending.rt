@@ -1,6 +1,6 @@
 //! What a pool leaves at its end.
 
-use pool_model::statement::Statement;
+use pool_statement::statement::Statement;
 
 /// What a pool that is closed left: its statement, or the elements that are lost where workers were
 /// missing, ascending.

@@ -12,6 +12,8 @@ pub mod labels;
 mod loose;
 pub mod opening;
 pub mod packets;
+mod parcel_seat;
+pub mod parcels;
 pub mod pool;
 pub mod pool_handle;
 pub mod pool_workers;

@@ -3,7 +3,7 @@
 ghost use Rattle.std.specs.Prelude.{◌≡◌, ◌≢◌, ◌≤◌, All, IfOk, IfErr, List, length, map, reverse};
 ghost use Rattle.std.specs.List.{range_with_len};
 ghost use Rattle.ground.specs.Opening.{IsGroundCause};
-ghost use Rattle.word_pool.specs.Workers.{AreWorkers, IsWorker, WorkerState};
+ghost use Rattle.word_pool.specs.Workers.{AreWorkers, IsAt, WorkerState};
 ghost use Rattle.mbufpool_c.specs.Labelled.{newly};
 ghost use Rattle.mbufpool_c.specs.inside.Shared.{numbers_of};
 ghost use Rattle.mbufpool_c.specs.Opens.{HaveWorkers, IsNewCrew, Opens, RefusesOpen, pool_limits};
@@ -56,7 +56,7 @@ fn owned(
     worker: WordWorker,
     number: u32,
 ) -> Result<Box<OwnWorker>, AllocError>
-    requires of { IsWorker shared.now.value worker }
+    requires of { IsAt shared.now.value worker }
     requires number { number ≡ worker.member.number }
     ensures { IfOk result (λ own. own.value ≡ newly worker) }
 {
@@ -74,7 +74,7 @@ fn boxed(
     shared: &Arc<SharedPool>,
     mut workers: Vec<WordWorker>,
 ) -> Result<Vec<Box<OwnWorker>>, AllocError>
-    requires each { All (IsWorker shared.now.value) workers.items }
+    requires each { All (IsAt shared.now.value) workers.items }
     requires numbers { numbers_of workers.items ≡ range_with_len 1 (length workers.items) }
     requires few { length workers.items ≤ 64 }
     ensures { IfOk result (λ boxes. reverse (map (λ own. own.value) boxes.items) ≡ map newly workers.items) }

@@ -2,7 +2,7 @@
 //! it is left where the pool is closed.
 
 ghost use Rattle.std.specs.Prelude.{◌≡◌, All, IfOk, IfSome};
-ghost use Rattle.word_pool.specs.Workers.{IsWorker};
+ghost use Rattle.word_pool.specs.Workers.{IsAt};
 ghost use Rattle.mbufpool_c.specs.inside.Shared.{IsReturned};
 
 use crate::loose::Loose;
@@ -175,7 +175,7 @@ fn put_in(entry: &Entry, returned: Returned)
 /// Another's place is refused.
 pub(crate) fn take_out(entry: Entry, number: u32) -> Result<Option<WordWorker>, ()>
     ensures { IfOk result (λ found. IfSome found (λ worker.
-        IsWorker entry worker × (worker.member.number ≡ number))) }
+        IsAt entry worker × (worker.member.number ≡ number))) }
 {
     match entry.into_inner() {
         None => Ok(None),

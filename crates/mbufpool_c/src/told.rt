@@ -8,7 +8,7 @@ ghost use Rattle.mbufpool_c.specs.Told.{Fills, ShowsCounts, ShowsCountsOf, Tells
 use crate::ending::Ending;
 use crate::ending_handle::EndingHandle;
 use commons::refusal::Refusal;
-use pool_model::statement::Statement;
+use pool_statement::statement::Statement;
 use statement_text::{pool_json, pool_text};
 use std::alloc::Global;
 

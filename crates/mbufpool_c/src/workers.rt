@@ -1,17 +1,20 @@
 //! A worker with the words that it works on.
 
 ghost use Rattle.std.specs.Prelude.{◌≡◌, IfOk, None, Some, length, slice_index_or};
+ghost use Rattle.std.specs.Option.{MatchOption};
 ghost use Rattle.commons.specs.Calls.{with_list};
+ghost use Rattle.ground.specs.Seats.{IsOf};
 ghost use Rattle.mbuf.specs.Acts.{HasRoom, allocated, allocated_bulk, as_reply, cloned, first_elem, freed};
 ghost use Rattle.mbufpool_c.specs.Labelled.{ActsBy, if_done as labels_if_done, in_slots as act_in_slots, labels_after, newly};
 ghost use Rattle.mbufpool_c.specs.Labels.{label_in, slot_in};
+ghost use Rattle.mbufpool_c.specs.Parcels.{ReceivesBy, SendsBy, pool_of};
 ghost use Rattle.mbufpool_c.specs.Segments.{seg_at};
 ghost use Rattle.mbufpool_c.specs.Statuses.{WorkerReads};
-ghost use Rattle.word_pool.specs.Workers.{IsWorker};
+ghost use Rattle.word_pool.specs.Workers.{IsAt};
 
 use crate::labels::Labels;
 use crate::shared::{Returned, SharedPool};
-use commons::packet::Seg;
+use commons::packet::{Packet, Seg};
 use commons::refusal::Refusal;
 use mbuf::acts::{Act, Answer};
 use mbuf::freed::Freed;
@@ -19,6 +22,7 @@ use mbuf::packets::Pid;
 use std::alloc::AllocError;
 use std::marker::Model;
 use std::sync::Arc;
+use word_pool::parcel::{Parcel, Unsent};
 use word_pool::worker::WordWorker;
 
 /// A worker, with what its pool's workers share, which is freed with the last of its workers, and
@@ -97,7 +101,7 @@ fn go_by<const ROOM: usize>(labels: &mut Labels, act: Act, answer: &Answer<ROOM>
 impl OwnWorker {
     /// The worker of this number, of this pool. The label of each slot is the slot.
     pub(crate) fn new(shared: Arc<SharedPool>, worker: WordWorker, number: u32) -> OwnWorker
-        requires of { IsWorker shared.value worker }
+        requires of { IsAt shared.value worker }
         requires number { number ≡ worker.member.number }
         ensures { result ≡ newly worker }
     {
@@ -111,7 +115,7 @@ impl OwnWorker {
 
     /// What it shares, once more, unless there are too many owners.
     pub(crate) fn shared(&self) -> Result<Arc<SharedPool>, AllocError>
-        ensures { IfOk result (λ shared. IsWorker shared.value self.now.worker) }
+        ensures { IfOk result (λ shared. IsAt shared.value self.now.worker) }
     {
         Arc::try_clone(&self.shared)
     }
@@ -209,6 +213,49 @@ impl OwnWorker {
     {
         let slot = self.labels.slot(number);
         self.worker.clone_packet(self.shared.ground(), slot)
+    }
+
+    /// Takes the packet of this number out of its slot, as a parcel. The number stands for no packet
+    /// then.
+    #[inline(always)]
+    pub(crate) fn send(&mut self, number: u32) -> Result<Parcel, Unsent>
+        ensures { SendsBy number self.old result self.new }
+    {
+        let slot = self.labels.slot(number);
+        match self.worker.send(self.shared.ground(), slot) {
+            Ok(parcel) => {
+                self.labels.go(slot);
+                Ok(parcel)
+            }
+            Err(cause) => Err(cause),
+        }
+    }
+
+    /// Receives a parcel of its pool, and answers the slot in which the packet stands.
+    #[inline(always)]
+    pub(crate) fn receive(&mut self, parcel: Parcel) -> Result<Pid, (Refusal, Parcel)>
+        requires { IsOf (pool_of self.old.worker) parcel.seat }
+        ensures { ReceivesBy parcel self.old result self.new }
+    {
+        self.worker.receive(self.shared.ground(), parcel)
+    }
+
+    /// The packet of this number, where there is one.
+    #[inline(always)]
+    pub(crate) fn packet(&self, number: u32) -> Option<&Packet>
+        ensures { MatchOption result
+            (slice_index_or self.now.worker.member.table (slot_in self.now.labels number) None ≡ None)
+            (λ p. slice_index_or self.now.worker.member.table (slot_in self.now.labels number) None ≡ Some p.now) }
+    {
+        self.worker.place(self.labels.slot(number))
+    }
+
+    /// The worker's part of its pool.
+    #[inline(always)]
+    pub(crate) fn part(&self) -> u64
+        ensures { result ≡ self.now.worker.seat.known.view.part }
+    {
+        self.worker.part()
     }
 
     /// The number by which C has the packet in a slot.

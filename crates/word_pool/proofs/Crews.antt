@@ -17,6 +17,7 @@ use Rattle.step_core.specs.declared.view.View.{View}
 use Rattle.step_core.specs.World.{empty_view, worker_part}
 use Rattle.word_pool.specs.Workers.{WorkerState, HasNotActed, IsWorker, AreNew, AreWorkers}
 use Rattle.word_pool.specs.inside.Crews.{AreFirst, IsUnused, new_member}
+use Rattle.word_pool.proofs.Parts.{all_with_parts}
 
 -- new members, and the next one
 more_from : (l : Limits) (first n : ℕ) →
@@ -76,10 +77,8 @@ one_more g number ms more l s same first before of unused added =
 
 -- all of them are the workers of the new pool
 pub all_workers : (g : Grounded) (ms : List WorkerState) → AreFirst g g.limits.workers ms → AreWorkers g ms
-all_workers g ms all = record {
-  numbers = ap (map (λ (m : Member). m.number)) all.members ∙ numbered_from g.limits 1 g.limits.workers;
-  each = all.each;
-}
+all_workers g ms all =
+    all_with_parts g ms (ap (map (λ (m : Member). m.number)) all.members ∙ numbered_from g.limits 1 g.limits.workers) all.each
 
 pub all_new : (g : Grounded) (ms : List WorkerState) → AreFirst g g.limits.workers ms → AreNew g.limits ms
 all_new g ms all = record { members = all.members; views = all.views; unmoved = all.unmoved }

@@ -1,9 +1,8 @@
 -- The seats of all workers are made one, and their shares are what it has.
 use Rattle.std.proofs.Common.{ℕ, ◌≡◌, List, [], ◌∷◌, ◌++◌, append_assoc, length, reverse, refl, sym, ap, ◌∙◌, subst, arith}
 use Rattle.std.specs.Prelude.{All, flat_map}
-use Rattle.std.proofs.lemmas.List.{append-nil, length-map, reverse-append}
+use Rattle.std.proofs.lemmas.List.{append-nil, reverse-append}
 use Rattle.std.proofs.lemmas.List.Elements.{All-cons, All-nil, All-pop}
-use Rattle.std.proofs.lemmas.List.FromFn.{length-range_with_len}
 use Rattle.std.specs.Prelude.{Option, Some}
 use Rattle.commons.specs.declared.packet.Seg.{Seg}
 use Rattle.ground.specs.declared.known.Known.{Known}
@@ -12,36 +11,27 @@ use Rattle.ground.specs.Parting.{both_with, both_views, IsBoth}
 use Rattle.ground.specs.Seats.{Grounded, Note, Seated, IsOf}
 use Rattle.mbuf.specs.Members.{Member}
 use Rattle.word_pool.specs.Shares.{AreSharesOf}
-use Rattle.word_pool.specs.Workers.{WorkerState, AreWorkers, HasNotActed, IsIdle, IsWorker, members_of}
+use Rattle.word_pool.specs.Workers.{WorkerState, HasNotActed, IsAt, IsIdle}
 use Rattle.word_pool.specs.inside.Joins.{AreJoined}
 use Rattle.word_pool.proofs.Joined.{both_shares, one_share}
-use Rattle.step_core.specs.World.{worker_part}
-
--- all workers are as many as the pool has
-pub count_of_workers : (g : Grounded) (ms : List WorkerState) → AreWorkers g ms → length ms ≡ g.limits.workers
-count_of_workers g ms all =
-    sym (length-map ms (λ (m : WorkerState). m.member))
-    ∙ sym (length-map (members_of ms) (λ (m : Member). m.number))
-    ∙ ap length all.numbers ∙ length-range_with_len 1 g.limits.workers
+use Rattle.word_pool.proofs.Parts.{parts-cons, parts_alone}
 
 -- the last worker's seat is the first of them
 pub last_joined : (g : Grounded) (all left : List WorkerState) (m : WorkerState) (s : Seated) (p : Member) (handed : List Member) →
-    All (IsWorker g) all → all ≡ left ++ m ∷ [] → IsIdle m → s ≡ m.seat → p ≡ m.member → handed ≡ p ∷ [] →
+    All (IsAt g) all → all ≡ left ++ m ∷ [] → IsIdle m → s ≡ m.seat → p ≡ m.member → handed ≡ p ∷ [] →
     AreJoined g all left s handed
 last_joined g all left m s p handed each e idle seat packets shares =
-    let split = All-pop (IsWorker g) all left (Some m) e each in
-    let part : m.seat.known.view.part ≡ worker_part = split.1.part in
+    let split = All-pop (IsAt g) all left (Some m) e each in
     rw (seat, shares, packets) (record {
       each = split.0;
       done = m ∷ [];
       split = e;
       idle = All-cons IsIdle m [] idle (All-nil IsIdle);
-      of = split.1.of;
+      of = split.1;
       rest = idle.rest;
       slots = idle.slots;
-      part = part;
       made = record {
-        part = part;
+        part = sym (parts_alone m);
         hand = sym (append-nil m.seat.known.view.hand);
         holds = sym (append-nil m.seat.known.view.holds);
         headers = sym (append-nil m.seat.known.view.headers);
@@ -75,9 +65,8 @@ pub next_joined : (g : Grounded) (all before left : List WorkerState) (m : Worke
     IsBoth o s.known t → more ≡ handed ++ p ∷ [] →
     AreJoined g all left t more
 next_joined g all before left m s o t p handed more joined e idle seat packets join shares =
-    let split = All-pop (IsWorker g) before left (Some m) e joined.each in
-    let part : m.seat.known.view.part ≡ worker_part = split.1.part in
-    let total = joined.part in
+    let split = All-pop (IsAt g) before left (Some m) e joined.each in
+    let total = joined.made.part in
     let turned : reverse (handed ++ m.member ∷ []) ≡ m.member ∷ reverse handed =
     reverse-append handed (m.member ∷ []) in
     let one_seat : t ≡ record m.seat { known = both_with m.seat.known s.known join.0 } =
@@ -91,12 +80,11 @@ next_joined g all before left m s o t p handed more joined e idle seat packets j
           joined.split ∙ ap (λ (xs : List WorkerState). xs ++ joined.done) e
           ∙ append_assoc left (m ∷ []) joined.done;
       idle = All-cons IsIdle m joined.done idle joined.idle;
-      of = record { table = split.1.of.table; limits = split.1.of.limits };
+      of = record { table = split.1.table; limits = split.1.limits };
       rest = record { zeros = refl; credit = refl; chain = refl; work = refl };
       slots = idle.slots;
-      part = omega arith;
       made = record {
-        part = omega arith;
+        part = omega (arith, parts-cons m joined.done, total);
         hand = ap (λ (xs : List ℕ). m.seat.known.view.hand ++ xs) joined.made.hand;
         holds = ap (λ (xs : List ℕ). m.seat.known.view.holds ++ xs) joined.made.holds;
         headers = ap (λ (xs : List ℕ). m.seat.known.view.headers ++ xs) joined.made.headers;
@@ -125,8 +113,8 @@ all_done g all [] s handed joined none = sym joined.split
 all_done g all (m ∷ left) s handed joined none = absurd (omega arith)
 
 -- the last of some workers is one of the ground
-pub last_is_of : (g : Grounded) (before left : List WorkerState) (m : WorkerState) (s : Seated) → All (IsWorker g) before →
+pub last_is_of : (g : Grounded) (before left : List WorkerState) (m : WorkerState) (s : Seated) → All (IsAt g) before →
     before ≡ left ++ m ∷ [] → s ≡ m.seat → IsOf g s
 last_is_of g before left m s each e seat =
-    let split = All-pop (IsWorker g) before left (Some m) e each in
-    subst (IsOf g) (sym seat) split.1.of
+    let split = All-pop (IsAt g) before left (Some m) e each in
+    subst (IsOf g) (sym seat) split.1

@@ -14,8 +14,8 @@ use Rattle.mbuf.specs.Members.{Member}
 use Rattle.book.specs.Lost.{AreOrdered, IsOf}
 use Rattle.book.proofs.Lost.{all_ordered}
 use Rattle.word_pool.specs.Lost.{AreLeft, left_of}
-use Rattle.word_pool.specs.Workers.{WorkerState, AreWorkers, IsWorker, members_of}
-use Rattle.word_pool.proofs.Joins.{count_of_workers}
+use Rattle.word_pool.specs.Workers.{WorkerState, AreCrew, IsAt, members_of}
+use Rattle.word_pool.proofs.Parts.{as_many as all_many}
 
 -- the numbers of members
 abbrev pub numbers : List Member → List ℕ
@@ -72,11 +72,11 @@ module _ (l : Limits) (members : List Member) (all : numbers members ≡ range_w
             ];
       }
 
--- ---- so of a ground's workers
+-- ---- so of a ground's workers, whatever parts they have
 
-module _ (g : Grounded) (ms : List WorkerState) (workers : AreWorkers g ms) (n : ℕ) (of : IsOf g.limits n) where
+module _ (g : Grounded) (ms : List WorkerState) (workers : AreCrew g ms) (n : ℕ) (of : IsOf g.limits n) where
   pub as_many : length ms ≡ g.limits.workers
-  as_many = count_of_workers g ms workers
+  as_many = all_many g.limits ms workers.numbers
 
   -- an only worker stays
   pub only_left : length ms ≡ 1 → AreLeft g (n ∷ []) ms
@@ -91,21 +91,21 @@ module _ (g : Grounded) (ms : List WorkerState) (workers : AreWorkers g ms) (n :
   others_left many = record {
     some = omega (arith, of.first, of.last, as_many, length-remove ms (n - 1) (omega (arith, of.first, of.last, as_many)));
     each =
-        All-append (IsWorker g) (take (n - 1) ms) (drop (suc (n - 1)) ms) (All-take (IsWorker g) (n - 1) ms workers.each)
-        (All-drop (IsWorker g) (suc (n - 1)) ms workers.each);
+        All-append (IsAt g) (take (n - 1) ms) (drop (suc (n - 1)) ms) (All-take (IsAt g) (n - 1) ms workers.each)
+        (All-drop (IsAt g) (suc (n - 1)) ms workers.each);
     ordered =
         subst (AreOrdered g.limits (n ∷ [])) (sym (map-remove (λ (m : WorkerState). m.member) ms (n - 1)))
         (ordered_without g.limits (members_of ms) workers.numbers n of);
   }
 
 -- the number of a worker is one of as many
-pub number_within : (g : Grounded) (ms : List WorkerState) (number : ℕ) → AreWorkers g ms → IsOf g.limits number →
+pub number_within : (g : Grounded) (ms : List WorkerState) (number : ℕ) → AreCrew g ms → IsOf g.limits number →
     (1 ≤ number) × (number ≤ length ms)
 number_within g ms number workers of =
     (of.first, (let last = of.last in omega (arith, as_many g ms workers number of)))
 
 -- who is left once one is lost
-pub left_after : (g : Grounded) (ms : List WorkerState) (number : ℕ) → AreWorkers g ms → IsOf g.limits number →
+pub left_after : (g : Grounded) (ms : List WorkerState) (number : ℕ) → AreCrew g ms → IsOf g.limits number →
     AreLeft g (number ∷ []) (left_of number ms)
 left_after g ms number workers of =
     cond_both (length ms == 1) ms (remove ms (number - 1)) (AreLeft g (number ∷ []))
@@ -117,3 +117,11 @@ left_after g ms number workers of =
     let last = of.last in
     omega (arith, as_many g ms workers number of)) in
     others_left g ms workers number of many)
+
+-- all are left where nobody is lost
+pub all_left : (g : Grounded) (ms : List WorkerState) → AreCrew g ms → 1 ≤ g.limits.workers → AreLeft g [] ms
+all_left g ms workers some = record {
+  some = omega (arith, all_many g.limits ms workers.numbers, some);
+  each = workers.each;
+  ordered = all_ordered g.limits (members_of ms) workers.numbers [];
+}

@@ -8,6 +8,8 @@ mod Left
 mod Lost
 mod LostViews
 mod OneView
+mod Parcels
+pub mod Parts
 mod Settles
 mod Staying
 mod Sums

@@ -11,7 +11,7 @@ use Rattle.commons.specs.declared.limits.Limits.{Limits}
 use Rattle.commons.specs.declared.packet.Seg.{Seg}
 use Rattle.commons.specs.Packets.{held_in, own_in}
 use Rattle.mbuf.specs.Members.{Member}
-use Rattle.pool_model.specs.declared.guest.Guest.{Guest}
+use Rattle.pool_statement.specs.declared.guest.Guest.{Guest}
 use Rattle.pool_model.specs.Guests.{AreOfWorkers}
 use Rattle.pool_model.proofs.Listed.{sum_by-map}
 use Rattle.step_core.specs.Bags.{below}

@@ -15,8 +15,8 @@ use Rattle.word_pool.specs.TwinWorkers.{TwinState, AreTwinWorkers, HasNotActedTw
 use Rattle.word_pool.specs.Workers.{WorkerState}
 use Rattle.word_pool.specs.inside.TwinCrews.{AreTwinsJoined, IsWhole}
 use Rattle.word_pool.proofs.Joins.{both_notes, both_unmoved}
+use Rattle.word_pool.proofs.Parts.{parts-cons, parts_alone}
 use Rattle.word_pool.proofs.TwinJoined.{both_twin_shares, one_twin_share}
-use Rattle.step_core.specs.World.{worker_part}
 
 -- all workers are as many as the pools have
 pub count_of_twins : (g h : Grounded) (ms : List TwinState) → AreTwinWorkers g h ms → length ms ≡ g.limits.workers
@@ -27,13 +27,13 @@ count_of_twins g h ms all =
     ∙ ap length all.first_numbers ∙ length-range_with_len 1 g.limits.workers
 
 -- a worker's seat is that of one worker
-lone_seat : (g : Grounded) (m : WorkerState) → IsOf g m.seat → m.seat.known.view.part ≡ worker_part →
-    AtRest m.seat.known.view → m.seat.slots ≡ [] → IsWhole g (m ∷ []) m.seat
-lone_seat g m of part rest slots = record {
+lone_seat : (g : Grounded) (m : WorkerState) → IsOf g m.seat → AtRest m.seat.known.view → m.seat.slots ≡ [] →
+    IsWhole g (m ∷ []) m.seat
+lone_seat g m of rest slots = record {
   of = of;
   slots = slots;
   made = record {
-    part = part;
+    part = sym (parts_alone m);
     hand = sym (append-nil m.seat.known.view.hand);
     holds = sym (append-nil m.seat.known.view.holds);
     headers = sym (append-nil m.seat.known.view.headers);
@@ -53,9 +53,9 @@ last_twin_joined g h all left m s u t handed each e idle first second twin share
       done = m ∷ [];
       split = e;
       idle = All-cons IsTwinIdle m [] idle (All-nil IsTwinIdle);
-      first = lone_seat g (record { seat = m.first; member = m.member.first }) split.1.first split.1.first_part
+      first = lone_seat g (record { seat = m.first; member = m.member.first }) split.1.first
           idle.first_rest idle.first_slots;
-      second = lone_seat h (record { seat = m.second; member = m.member.second }) split.1.second split.1.second_part
+      second = lone_seat h (record { seat = m.second; member = m.member.second }) split.1.second
           idle.second_rest idle.second_slots;
       members = refl;
       shares = one_twin_share m.first.known.limits m.second.known.limits m.first.known.view m.second.known.view m.member idle.own;
@@ -66,14 +66,14 @@ last_twin_joined g h all left m s u t handed each e idle first second twin share
 
 -- a seat that another was joined to has what both had
 joined_whole : (g : Grounded) (m : WorkerState) (ms : List WorkerState) (other s : Seated) → IsOf g m.seat → m.seat.slots ≡ [] →
-    m.seat.known.view.part ≡ worker_part → IsWhole g ms other → IsBoth m.seat other.known s → IsWhole g (m ∷ ms) s
-joined_whole g m ms other s of slots one whole both =
+    IsWhole g ms other → IsBoth m.seat other.known s → IsWhole g (m ∷ ms) s
+joined_whole g m ms other s of slots whole both =
     let part = whole.made.part in
     let here : IsWhole g (m ∷ ms) (record m.seat { known = both_with m.seat.known other.known both.0 }) = record {
       of = record { table = of.table; limits = of.limits };
       slots = slots;
       made = record {
-        part = omega (arith, one, part);
+        part = omega (arith, parts-cons m ms, part);
         hand = ap (λ (xs : List ℕ). m.seat.known.view.hand ++ xs) whole.made.hand;
         holds = ap (λ (xs : List ℕ). m.seat.known.view.holds ++ xs) whole.made.holds;
         headers = ap (λ (xs : List ℕ). m.seat.known.view.headers ++ xs) whole.made.headers;
@@ -115,10 +115,10 @@ next_twin_joined g h all before left m s u o p s' u' t handed more joined e idle
       idle = All-cons IsTwinIdle m joined.done idle joined.idle;
       first =
           joined_whole g (record { seat = m.first; member = m.member.first }) (first_crew joined.done) s s' split.1.first
-          idle.first_slots split.1.first_part joined.first both;
+          idle.first_slots joined.first both;
       second =
           joined_whole h (record { seat = m.second; member = m.member.second }) (second_crew joined.done) u u'
-          split.1.second idle.second_slots split.1.second_part joined.second others;
+          split.1.second idle.second_slots joined.second others;
       members = turned ∙ ap (λ (xs : List TwinMember). m.member ∷ xs) joined.members;
       shares =
           rw (turned, joined_view m.first s' s both, joined_view m.second u' u others)

@@ -3,7 +3,7 @@ use Rattle.std.proofs.Common.{ℕ, ◌≡◌, ◌+◌, ◌≤◌, true, false, g
 use Rattle.std.specs.Prelude.{All, flat_map}
 use Rattle.std.specs.List.{range_with_len}
 use Rattle.std.proofs.lemmas.List.{nil_from_length}
-use Rattle.std.proofs.lemmas.List.Elements.{All-map}
+use Rattle.std.proofs.lemmas.List.Elements.{All-map, All-weaker}
 use Rattle.std.proofs.lemmas.List.FromFn.{length-range_with_len}
 use lib.ListN.{length-map}
 use Rattle.commons.specs.Bag.{bag}
@@ -23,7 +23,7 @@ use Rattle.snapshot.specs.Closing.{share_of}
 use Rattle.snapshot.specs.declared.snapshot.ShareData.{ShareData}
 use Rattle.snapshot.specs.declared.snapshot.Snapshot.{Snapshot}
 use Rattle.pool_model.specs.Guests.{elements_with, entry_with}
-use Rattle.pool_model.specs.declared.statement.Held.{Held}
+use Rattle.pool_statement.specs.declared.statement.Held.{Held}
 use Rattle.snapshot.specs.Snapshots.{ListsItsElements, own_pool, statement_in, times_held}
 use Rattle.snapshot.proofs.Times.{held-is}
 use Rattle.book.specs.declared.closed_twin.ClosedTwin.{ClosedTwin}
@@ -31,12 +31,13 @@ use Rattle.book.specs.Left.{AreLeftWhole, IsLawfulByTypes, first_of, second_of}
 use Rattle.book.proofs.Spelled.{lawful}
 use Rattle.book.proofs.TwinGuests.{guests_are_bases, guests_of_workers, local_holds, sum_both, sum_same}
 use Rattle.word_pool.specs.TwinShares.{AreFirstShares, AreSecondShares, AreTwinShares}
-use Rattle.word_pool.specs.TwinWorkers.{TwinState, AreStatementsOfTwins}
-use Rattle.word_pool.specs.Workers.{WorkerState}
+use Rattle.word_pool.specs.TwinWorkers.{TwinState, AreStatementsOfTwins, IsTwinWorker, first_crew, second_crew}
+use Rattle.word_pool.specs.Workers.{WorkerState, IsWorker}
 use Rattle.ground.specs.Changing.{IsFresh, IsUnmoved, closed_at_start}
 use Rattle.word_pool.specs.Leaving.{IsLeftAtRest}
 use Rattle.word_pool.specs.inside.TwinCrews.{AreTwinsClosed}
 use Rattle.word_pool.proofs.OneView.{common, held_few, words_show}
+use Rattle.word_pool.proofs.Parts.{parts_each}
 use Rattle.word_pool.proofs.TwinJoins.{count_of_twins}
 use Rattle.word_pool.proofs.WholeLeft.{AreNumbered}
 use Rattle.step_core.specs.World.{worker_part, every_part}
@@ -121,17 +122,30 @@ first_of_crew m = record { seat = m.first; member = m.member.first }
 abbrev second_of_crew : TwinState → WorkerState
 second_of_crew m = record { seat = m.second; member = m.member.second }
 
+-- each worker of two grounds is one of either, with a worker's part
+first_workers : (g h : Grounded) (ms : List TwinState) → All (IsTwinWorker g h) ms → All (IsWorker g) (first_crew ms)
+first_workers g h ms each =
+    All-map (IsWorker g) (λ (m : TwinState). first_of_crew m) ms
+    (All-weaker (IsTwinWorker g h) (λ (m : TwinState). IsWorker g (first_of_crew m))
+    (λ m is. record { of = is.first; part = is.first_part }) ms each)
+
+second_workers : (g h : Grounded) (ms : List TwinState) → All (IsTwinWorker g h) ms → All (IsWorker h) (second_crew ms)
+second_workers g h ms each =
+    All-map (IsWorker h) (λ (m : TwinState). second_of_crew m) ms
+    (All-weaker (IsTwinWorker g h) (λ (m : TwinState). IsWorker h (second_of_crew m))
+    (λ m is. record { of = is.second; part = is.second_part }) ms each)
+
 -- ---- of the workers of two grounds that were closed, each by the one seat of theirs
 
 module _ (g h : Grounded) (ms : List TwinState) (s u : Seated) (c : ClosedTwin) (are : AreTwinsClosed g h ms s u c) where
   first_parts : s.known.view.part ≡ every_part g.limits
   first_parts =
-      are.first_whole.made.part
+      are.first_whole.made.part ∙ parts_each g (first_crew ms) (first_workers g h ms are.all.each)
       ∙ ap (λ (n : ℕ). n * worker_part) (length-map ms (λ (m : TwinState). first_of_crew m) ∙ count_of_twins g h ms are.all)
 
   second_parts : u.known.view.part ≡ every_part h.limits
   second_parts =
-      are.second_whole.made.part
+      are.second_whole.made.part ∙ parts_each h (second_crew ms) (second_workers g h ms are.all.each)
       ∙ ap (λ (n : ℕ). n * worker_part)
       (length-map ms (λ (m : TwinState). second_of_crew m) ∙ count_of_twins g h ms are.all
       ∙ sym are.all.pools.twins.workers)

@@ -13,8 +13,8 @@ use Rattle.ground.specs.Lying.{LieByNotes}
 use Rattle.ground.specs.Seats.{Grounded, Note}
 use Rattle.ground.specs.declared.known.Known.{Known}
 use Rattle.mbuf.specs.Members.{Member}
-use Rattle.pool_model.specs.declared.guest.Guest.{Guest}
-use Rattle.pool_model.specs.declared.statement.Statement.{Statement}
+use Rattle.pool_statement.specs.declared.guest.Guest.{Guest}
+use Rattle.pool_statement.specs.declared.statement.Statement.{Statement}
 use Rattle.pool_model.proofs.Alone.{statement_alone}
 use Rattle.pool_model.proofs.Listed.{sum_by-map}
 use Rattle.pool_model.proofs.ListedPackets.{listed_counts}

@@ -10,7 +10,7 @@ use Rattle.ground.specs.Closing.{LeftOf}
 use Rattle.ground.specs.Own.{AtRest}
 use Rattle.ground.specs.declared.known.Known.{Known}
 use Rattle.mbuf.specs.Members.{Member}
-use Rattle.pool_model.specs.declared.statement.Statement.{Statement}
+use Rattle.pool_statement.specs.declared.statement.Statement.{Statement}
 use Rattle.snapshot.specs.Closing.{snapshot_of}
 use Rattle.snapshot.specs.Snapshots.{statement_in}
 use Rattle.step_core.specs.World.{every_part}

@@ -11,13 +11,13 @@ use Rattle.snapshot.specs.Lost.{AreLost}
 use Rattle.step_core.specs.declared.view.View.{View}
 use Rattle.word_pool.specs.LostViews.{AreLostBy, others}
 use Rattle.word_pool.specs.Shares.{AreSharesOf}
-use Rattle.word_pool.specs.Workers.{WorkerState, IsSeatOf, IsWorker, members_of}
+use Rattle.word_pool.specs.Workers.{WorkerState, IsAt, IsSeatOf, members_of}
 
 -- Workers of this ground, one at least, in the order of their numbers; each other worker of the
 -- pool is listed as missing.
 pub record AreLeft (g : Grounded) (listed : List ℕ) (ms : List WorkerState) : Type 0 where
   pub some : 0 < length ms
-  pub each : All (IsWorker g) ms
+  pub each : All (IsAt g) ms
   pub ordered : AreOrdered g.limits listed (members_of ms)
 
 -- the views of those of these workers who are listed

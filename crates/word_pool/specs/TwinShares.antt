@@ -9,7 +9,7 @@ use Rattle.ground.specs.Closing.{LeftOf}
 use Rattle.ground.specs.declared.known.Known.{Known}
 use Rattle.mbuf.specs.Foreign.{bases_in}
 use Rattle.mbuf.specs.Twins.{TwinMember}
-use Rattle.pool_model.specs.declared.statement.Statement.{Statement}
+use Rattle.pool_statement.specs.declared.statement.Statement.{Statement}
 use Rattle.snapshot.specs.Snapshots.{ListsItsElements, statement_in}
 use Rattle.book.specs.Left.{first_of, second_of}
 use Rattle.step_core.specs.declared.view.View.{View}

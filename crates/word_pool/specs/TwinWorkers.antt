@@ -12,7 +12,7 @@ use Rattle.mbuf.specs.Members.{Member}
 use Rattle.mbuf.specs.Refused.{IfRefused}
 use Rattle.mbuf.specs.Twins.{OwnTwin, TwinMember}
 use Rattle.pool_model.specs.Pool.{new_members}
-use Rattle.pool_model.specs.declared.statement.Statement.{Statement}
+use Rattle.pool_statement.specs.declared.statement.Statement.{Statement}
 pub use Rattle.book.specs.TwinBooks.{AreTwinPools, IsTwinMakeCause}
 use Rattle.stack_lf.specs.Sides.{side_of}
 use Rattle.stack_lf.specs.Tries.{DidOnWords}

@@ -1,5 +1,5 @@
 -- The workers of a pool on words.
-use Rattle.std.specs.Prelude.{◌≡◌, ◌<◌, ◌++◌, ℕ, List, [], All, flat_map, length, map, slice_index_or, ◌*◌}
+use Rattle.std.specs.Prelude.{◌≡◌, ◌<◌, ◌++◌, ℕ, List, [], All, flat_map, length, map, slice_index_or, sum_by}
 use Rattle.std.specs.List.{range_with_len}
 use Rattle.commons.specs.Calls.{Calls}
 use Rattle.commons.specs.declared.limits.Limits.{Limits}
@@ -15,7 +15,7 @@ use Rattle.mbuf.specs.Fresh.{AreFresh, new_elements}
 use Rattle.mbuf.specs.Members.{Member, KeepsMember}
 use Rattle.mbuf.specs.Own.{Own}
 use Rattle.mbuf.specs.Refused.{AsBefore, IfRefused}
-use Rattle.pool_model.specs.declared.statement.Statement.{Statement}
+use Rattle.pool_statement.specs.declared.statement.Statement.{Statement}
 use Rattle.pool_model.specs.Pool.{new_members}
 use Rattle.stack_lf.specs.Sides.{side_of}
 use Rattle.stack_lf.specs.Tries.{DidOnWords}
@@ -42,10 +42,22 @@ pub record Stays (old new : WorkerState) : Type 0 where
   pub part : new.seat.known.view.part ≡ old.seat.known.view.part
   pub number : new.member.number ≡ old.member.number
 
--- each of these workers is the same
+-- It is the same worker, of the same pool and with the same number, whatever part of it this worker
+-- has now: less where it has sent packets, and more where it has received some.
+pub record IsSameWorker (old new : WorkerState) : Type 0 where
+  pub table : new.seat.table ≡ old.seat.table
+  pub limits : new.seat.known.limits ≡ old.seat.known.limits
+  pub number : new.member.number ≡ old.member.number
+
+-- each of these workers stays
 pub record AllStay (old new : List WorkerState) : Type 0 where
   pub as_many : length new ≡ length old
   pub each : (i : ℕ) (d : WorkerState) → i < length old → Stays (slice_index_or old i d) (slice_index_or new i d)
+
+-- each of these workers is the same
+pub record AllAreSame (old new : List WorkerState) : Type 0 where
+  pub as_many : length new ≡ length old
+  pub each : (i : ℕ) (d : WorkerState) → i < length old → IsSameWorker (slice_index_or old i d) (slice_index_or new i d)
 
 -- The worker did this and was answered so: by calls over the words, each of which took the steps
 -- of its tries. What the answer tells of as new, none of its packets held; and where the act was
@@ -66,10 +78,25 @@ pub record IsWorker (g : Grounded) (m : WorkerState) : Type 0 where
 abbrev pub members_of : List WorkerState → List Member
 members_of ms = map (λ m. m.member) ms
 
--- all workers of this ground, in their order
+-- the worker's seat is one of this ground
+abbrev pub IsAt : Grounded → WorkerState → Type 0
+IsAt g m = IsOf g m.seat
+
+-- the parts of these workers, all together
+abbrev pub parts_of : List WorkerState → ℕ
+parts_of ms = sum_by (λ m. m.seat.known.view.part) ms
+
+-- all workers of this ground, in their order, whatever part of it each has
+pub record AreCrew (g : Grounded) (ms : List WorkerState) : Type 0 where
+  pub numbers : map (λ member. member.number) (members_of ms) ≡ range_with_len 1 g.limits.workers
+  pub each : All (IsAt g) ms
+
+-- All workers of this ground, in their order, who together have every part of it: no other seat has
+-- any, and no packet is under way from one worker to another.
 pub record AreWorkers (g : Grounded) (ms : List WorkerState) : Type 0 where
   pub numbers : map (λ member. member.number) (members_of ms) ≡ range_with_len 1 g.limits.workers
-  pub each : All (IsWorker g) ms
+  pub each : All (IsAt g) ms
+  pub parts : parts_of ms ≡ every_part g.limits
 
 -- the worker's seat has taken no step, and no seat that has was joined to it
 abbrev pub HasNotActed : WorkerState → Type 0
@@ -89,7 +116,7 @@ notes_by ms = flat_map (λ m. m.seat.known.steps ++ m.seat.known.joined) ms
 -- What the one seat knows that the seats of all these workers were joined to, in their order.
 pub record IsSeatOf (ms : List WorkerState) (n : Known) : Type 0 where
   -- it has the part of each
-  pub part : n.view.part ≡ length ms * worker_part
+  pub part : n.view.part ≡ parts_of ms
   -- the elements in its hand, those that it holds and its headers are theirs, all together
   pub hand : n.view.hand ≡ flat_map (λ m. m.seat.known.view.hand) ms
   pub holds : n.view.holds ≡ flat_map (λ m. m.seat.known.view.holds) ms

@@ -3,5 +3,6 @@ pub mod Closing
 pub mod Crews
 pub mod Joins
 pub mod Kept
+pub mod KeptParcel
 pub mod TwinCrews
 pub mod TwinKept

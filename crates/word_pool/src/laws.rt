@@ -20,7 +20,7 @@ ghost use Rattle.mbuf.specs.Own.{Own};
 ghost use Rattle.mbuf.specs.Twins.{OwnTwin, TwinMember};
 ghost use Rattle.snapshot.specs.Closing.{snapshot_of};
 ghost use Rattle.snapshot.specs.Lost.{AreLost};
-ghost use Rattle.step_core.specs.World.{empty_view};
+ghost use Rattle.step_core.specs.World.{empty_view, every_part};
 ghost use Rattle.step_core.specs.declared.view.View.{View};
 ghost use Rattle.word_pool.specs.Leaving.{HasAllShares, IsLeftAtRest};
 ghost use Rattle.word_pool.specs.Lost.{AreLeft, left_of};
@@ -28,11 +28,26 @@ ghost use Rattle.word_pool.specs.LostViews.{AreLostBy, IsLeftWithout};
 ghost use Rattle.word_pool.specs.Shares.{AreSharesOf, side_in};
 ghost use Rattle.word_pool.specs.TwinShares.{AreTwinShares};
 ghost use Rattle.word_pool.specs.TwinWorkers.{AllTwinsStay, AreTwinWorkers, TwinState};
-ghost use Rattle.word_pool.specs.Workers.{AllStay, AreWorkers, WorkerState};
+ghost use Rattle.word_pool.specs.Workers.{AllAreSame, AllStay, AreCrew, AreWorkers, IsSameWorker, Stays, WorkerState, parts_of};
 
 /// Where each of a pool's workers has stayed, whatever it did, they are all its workers, as before.
 pub fn workers_who_stay_are_all()
     ensures { (g : Grounded) (old new : List WorkerState) → AreWorkers g old → AllStay old new → AreWorkers g new }
+{}
+
+/// Where each of a pool's workers is the same, whatever packets it sent and received, they are all its
+/// workers, as before, whatever part of the pool each has now (`AreCrew`). Where they have every part
+/// together, which `pool::all_received` tells, they are all workers as `pool::settled` asks. Else they
+/// are left as `pool::settled_without` asks, all of them, or without one that is lost.
+pub fn workers_who_send_and_receive_are_its_crew()
+    ensures crew { (g : Grounded) (ms : List WorkerState) → AreWorkers g ms → AreCrew g ms }
+    ensures same { (g : Grounded) (old new : List WorkerState) → AreCrew g old → AllAreSame old new → AreCrew g new }
+    ensures all { (g : Grounded) (ms : List WorkerState) → AreCrew g ms → parts_of ms ≡ every_part g.limits → AreWorkers g ms }
+    ensures left { (g : Grounded) (ms : List WorkerState) → AreCrew g ms → 1 ≤ g.limits.workers → AreLeft g [] ms }
+    ensures lost { (g : Grounded) (ms : List WorkerState) (number : ℕ) → AreCrew g ms → IsWorkerOf g.limits number →
+        (number ≤ length ms) × AreLeft g (number ∷ []) (left_of number ms) }
+    ensures stays { (m n : WorkerState) → Stays m n → IsSameWorker m n }
+    ensures again { (m n o : WorkerState) → IsSameWorker m n → IsSameWorker n o → IsSameWorker m o }
 {}
 
 /// The number of each worker of a pool is one that `pool::lose` takes, and where the worker is lost, the

@@ -1,6 +1,6 @@
 //! The pool of all workers on words.
 
-ghost use Rattle.std.specs.Prelude.{◌≡◌, ◌+◌, ◌<◌, ◌≤◌, ◌++◌, ◌∷◌, [], All, List, IfOk, IfErr, length, vec_len, vec_capacity, ◌*◌};
+ghost use Rattle.std.specs.Prelude.{◌≡◌, ◌↔◌, IsTrue, ◌+◌, ◌<◌, ◌≤◌, ◌++◌, ◌∷◌, [], All, List, IfOk, IfErr, length, vec_len, vec_capacity};
 ghost use Rattle.book.specs.Left.{IsLeftWhole};
 ghost use Rattle.book.specs.Listing.{ListsPackets};
 ghost use Rattle.commons.specs.Bounds.{IsPool};
@@ -16,8 +16,8 @@ ghost use Rattle.word_pool.specs.Leaving.{statement_at_start};
 ghost use Rattle.word_pool.specs.Shares.{AreSharesOf};
 ghost use Rattle.word_pool.specs.inside.Crews.{IsUnused, new_member};
 ghost use Rattle.word_pool.specs.Lost.{AreLeft, AreLostOf, left_of};
-ghost use Rattle.word_pool.specs.Workers.{AreNew, AreWorkers, HasNotActed, IsIdle, IsSeatOf, IsStatementOfWorkers, IsWorker, members_of};
-ghost use Rattle.step_core.specs.World.{worker_part};
+ghost use Rattle.word_pool.specs.Workers.{AreNew, AreWorkers, HasNotActed, IsAt, IsIdle, IsSeatOf, IsStatementOfWorkers, IsWorker, members_of, parts_of};
+ghost use Rattle.step_core.specs.World.{every_part};
 
 use crate::closing::closed_by;
 use crate::worker::WordWorker;
@@ -29,8 +29,11 @@ use commons::refusal::Refusal;
 use ground::pool::Ground;
 use ground::seat::GroundSeat;
 use mbuf::packets::Packets;
-use pool_model::statement::Statement;
+use pool_statement::statement::Statement;
 use std::alloc::Global;
+
+/// The part of a pool that each worker is made with.
+const WORKER_PART: u64 = 1 << 56;
 
 /// Makes a pool on words, and its workers, numbered from 1, each with a worker's part of it, and none of
 /// whom has anything yet, nor has acted. The words are those of a new ground (`Ground::make`): all
@@ -41,6 +44,7 @@ use std::alloc::Global;
 pub fn make(alloc: Global, limits: &Limits) -> Result<(Ground, Vec<WordWorker>), Refusal>
     ensures limits { IfOk result (λ made. made.0.limits ≡ limits.now) }
     ensures workers { IfOk result (λ made. AreWorkers made.0 made.1.items) }
+    ensures parts { IfOk result (λ made. All (IsWorker made.0) made.1.items) }
     ensures new { IfOk result (λ made. AreNew limits.now made.1.items) }
     ensures pool { IfOk result (λ _. IsPool limits.now) }
     ensures cause { IfErr result (IsGroundCause limits.now) }
@@ -58,6 +62,7 @@ fn workers_of(alloc: Global, ground: &Ground, seat: GroundSeat) -> Result<Vec<Wo
     requires known { seat.known ≡ first_known ground.now.limits }
     requires slots { seat.slots ≡ [] }
     ensures workers { IfOk result (λ workers. AreWorkers ground.now workers.items) }
+    ensures parts { IfOk result (λ workers. All (IsWorker ground.now) workers.items) }
     ensures new { IfOk result (λ workers. AreNew ground.now.limits workers.items) }
     ensures memory { IfErr result (λ e. e ≡ Refusal.OutOfMemory) }
 {
@@ -95,7 +100,7 @@ fn add_worker(
     ensures memory { IfErr result (λ e. e ≡ Refusal.OutOfMemory) }
 {
     match Packets::make(alloc, limits, number) {
-        Ok(packets) => add(workers, WordWorker::new(seat, packets)),
+        Ok(packets) => add(workers, WordWorker::new(seat, packets, WORKER_PART)),
         Err(cause) => {
             seat.lose();
             Err(cause)
@@ -136,12 +141,29 @@ impl FreeSeat {
     }
 }
 
+/// Whether all of a pool's workers have every part of it together: each parcel that one of them sent
+/// was received by one of them. Until then the pool can't be settled.
+pub fn all_received(ground: &Ground, workers: &[WordWorker]) -> bool
+    ensures { IsTrue result ↔ (parts_of workers.now ≡ every_part ground.now.limits) }
+{
+    let mut left = ground.limits().workers * WORKER_PART;
+    for worker in workers {
+        let part = worker.part();
+        if part > left {
+            return false;
+        }
+        left -= part;
+    }
+    left == 0
+}
+
 /// Ends a pool whose workers no longer act: their seats become one, their packets are handed in, in
-/// the order of the workers' numbers, and the ground is closed. It gives the pool's limits, what the
-/// ground left, and the share of each worker, from the first to the last: a whole pool at rest. Its
-/// statement is that of what the ground left and of these workers' caches and packets, and no count
-/// in it is above the reference limit. Where no worker has acted, all elements are in the common
-/// list, element 0 on top, and no packet is on a desk.
+/// the order of the workers' numbers, and the ground is closed. The workers have every part of the
+/// pool together: each packet that one of them sent was received (`all_received`). It gives the
+/// pool's limits, what the ground left, and the share of each worker, from the first to the last: a
+/// whole pool at rest. Its statement is that of what the ground left and of these workers' caches and
+/// packets, and no count in it is above the reference limit. Where no worker has acted, all elements
+/// are in the common list, element 0 on top, and no packet is on a desk.
 ///
 /// Refused `OutOfMemory` where memory was refused. The pool is ended then too, and nothing is left
 /// of it.
@@ -176,7 +198,9 @@ pub fn close(
     }
 }
 
-/// Ends a pool whose workers no longer act, as `close` does, and settles it. The statement lists
+/// Ends a pool whose workers no longer act, as `close` does, and settles it. So each packet that one
+/// worker sent has to be received by one (`all_received`): a parcel that is lost or under way has a
+/// part of the pool, and what its packet holds is in no worker's hands. The statement lists
 /// each element exactly once, and each packet has a place of its own; it is that of what the ground
 /// left and of these workers' caches and packets. Each packet has 1 to 32 segments, each with its
 /// data within its buffer, and no count is above the reference limit. Where no worker has acted, all
@@ -220,7 +244,8 @@ pub fn lose(workers: &mut Vec<WordWorker>, number: u32)
 /// workers alone, wherever these stopped, in mid-call too: in a lawful world that left these words,
 /// since nobody asks the listed workers' threads what they knew. The seats of those who are left
 /// become one, which closes the ground, and their packets are handed in. Where a listed worker is
-/// among them, as an only one whose seat was kept, its cache and its packets are lost.
+/// among them, as an only one whose seat was kept, its cache and its packets are lost. So is what a
+/// parcel holds that nobody received.
 ///
 /// Refused `OutOfMemory` where memory was refused. The pool is ended then too, and nothing is left
 /// of it.
@@ -255,11 +280,10 @@ fn joined(
     mut shares: Vec<Share>,
 ) -> (GroundSeat, Vec<Share>)
     requires some { 0 < length workers.items }
-    requires each { All (IsWorker ground.now) workers.items }
+    requires each { All (IsAt ground.now) workers.items }
     requires empty { shares.items ≡ [] }
     requires room { vec_len workers ≤ vec_capacity shares }
     ensures of { IsOf ground.now result.0 }
-    ensures part { result.0.known.view.part ≡ length workers.items * worker_part }
     ensures rest { AtRest result.0.known.view }
     ensures made { IsSeatOf workers.items result.0.known }
     ensures idle { All IsIdle workers.items }

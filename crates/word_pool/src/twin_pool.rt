@@ -27,7 +27,7 @@ use commons::limits::Limits;
 use commons::refusal::Refusal;
 use ground::pool::Ground;
 use mbuf::twin::Twin;
-use pool_model::statement::Statement;
+use pool_statement::statement::Statement;
 use std::alloc::Global;
 
 /// Makes two pools on words, and their workers, numbered from 1, each with one part of either, and

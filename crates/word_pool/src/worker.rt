@@ -1,6 +1,6 @@
 //! A worker of a pool on words.
 
-ghost use Rattle.std.specs.Prelude.{◌≡◌, [], None, Some, length, slice_index_or};
+ghost use Rattle.std.specs.Prelude.{◌≡◌, [], IfOk, None, Some, length, slice_index_or};
 ghost use Rattle.std.specs.Option.{MatchOption};
 ghost use Rattle.ground.specs.Own.{AtRest};
 ghost use Rattle.ground.specs.Seats.{IsOf};
@@ -9,10 +9,12 @@ ghost use Rattle.mbuf.specs.Acts.{HasRoom, allocated, allocated_bulk, as_reply, 
 ghost use Rattle.mbuf.specs.Own.{Own};
 ghost use Rattle.stack_lf.specs.Remaining.{ReadsRemaining};
 ghost use Rattle.stack_lf.specs.Sides.{side_of};
-ghost use Rattle.word_pool.specs.Workers.{Acts, IsIdle, Stays};
+ghost use Rattle.word_pool.specs.Parcels.{Receives, Sends};
+ghost use Rattle.word_pool.specs.Workers.{Acts, IsIdle, IsSameWorker, Stays};
 ghost use Rattle.word_pool.specs.inside.Kept.{worker_at};
 
 use crate::calls;
+use crate::parcel::{Parcel, Unsent};
 use commons::packet::Packet;
 use commons::refusal::Refusal;
 use ground::pool::Ground;
@@ -29,6 +31,9 @@ use std::marker::Model;
 pub struct WordWorker {
     seat: GroundSeat,
     packets: Packets,
+    /// The worker's part of its pool, as the seat has it: a number, so that it is known at run time
+    /// whether a packet can be sent, and whether all that were sent have been received.
+    part: u64,
 }
 
 impl Model for WordWorker {
@@ -45,21 +50,30 @@ impl Model for WordWorker {
 
 impl Drop for WordWorker {
     fn drop(self) {
-        let WordWorker { seat, packets } = self;
+        let WordWorker {
+            seat,
+            packets,
+            part: _,
+        } = self;
         seat.lose();
         packets.lose();
     }
 }
 
 impl WordWorker {
-    /// The worker with this seat, whose packets are its own.
-    pub(crate) fn new(seat: GroundSeat, packets: Packets) -> WordWorker
+    /// The worker with this seat, whose packets are its own, and whose part is this.
+    pub(crate) fn new(seat: GroundSeat, packets: Packets, part: u64) -> WordWorker
+        requires part { part ≡ seat.known.view.part }
         requires rest { AtRest seat.known.view }
         requires slots { seat.slots ≡ [] }
         requires own { Own packets (side_of seat) }
         ensures { result ≡ record { seat = seat; member = packets } }
     {
-        WordWorker { seat, packets }
+        WordWorker {
+            seat,
+            packets,
+            part,
+        }
     }
 
     /// The seat of the worker, and its packets.
@@ -67,7 +81,11 @@ impl WordWorker {
         ensures parts { (result.0 ≡ self.seat) × (result.1 ≡ self.member) }
         ensures idle { IsIdle self }
     {
-        let WordWorker { seat, packets } = self;
+        let WordWorker {
+            seat,
+            packets,
+            part: _,
+        } = self;
         (seat, packets)
     }
 
@@ -85,6 +103,14 @@ impl WordWorker {
             (λ p. slice_index_or self.now.member.table slot None ≡ Some p.now) }
     {
         self.packets.place(slot)
+    }
+
+    /// The worker's part of its pool: 2^56, less 1 for each packet that it has sent, and 1 more for
+    /// each that it has received.
+    pub fn part(&self) -> u64
+        ensures { result ≡ self.now.seat.known.view.part }
+    {
+        self.part
     }
 
     /// How many changes of the pool's stack are left until an act that needs one is refused
@@ -161,6 +187,58 @@ impl WordWorker {
         ensures { Acts (Act.ClonePacket slot) self.old (cloned result self.new.member.table) self.new }
     {
         calls::clone_packet(ground, &mut self.seat, &mut self.packets, slot)
+    }
+
+    /// Takes a packet out of its slot, which is free then, and answers it as a parcel, with all that
+    /// it holds and a part of 1 of the worker's. Any worker of the pool may receive the parcel.
+    /// Nothing but loads of words is done at the ground.
+    ///
+    /// Refused `NoPart` where the worker has a part of 1 left, and `NoSuchPacket` where no packet
+    /// stands in the slot. Nothing changes then.
+    ///
+    /// Our own: in DPDK an mbuf is passed on by its pointer, which an `rte_ring` may carry.
+    pub fn send(&mut self, ground: &Ground, slot: Pid) -> Result<Parcel, Unsent>
+        requires of { IsOf ground.now self.old.seat }
+        ensures sent { Sends slot self.old result self.new }
+        ensures of { IfOk result (λ parcel. IsOf ground.now parcel.seat) }
+        ensures same { IsSameWorker self.old self.new }
+    {
+        if self.part < 2 {
+            return Err(Unsent::NoPart);
+        }
+        match self.packets.take_out(slot) {
+            Ok(packet) => {
+                self.seat.owned();
+                let seat = ground.lend_packet(&mut self.seat, &packet);
+                self.part -= 1;
+                Ok(Parcel::new(packet, seat))
+            }
+            Err(_) => Err(Unsent::NoSuchPacket),
+        }
+    }
+
+    /// Receives a parcel: its packet stands in the lowest free slot, which is the answer, and all
+    /// that it holds is the worker's, with the parcel's part. One word is loaded that nobody writes.
+    ///
+    /// Refused `PacketsFull` where no slot is free. The parcel comes back then, and nothing changes.
+    ///
+    /// Our own, as `send` is.
+    pub fn receive(&mut self, ground: &Ground, parcel: Parcel) -> Result<Pid, (Refusal, Parcel)>
+        requires of { IsOf ground.now self.old.seat }
+        requires parcel { IsOf ground.now parcel.seat }
+        ensures received { Receives parcel self.old result self.new }
+        ensures same { IsSameWorker self.old self.new }
+    {
+        let (packet, seat) = parcel.into_parts();
+        match self.packets.bring_in(packet) {
+            Ok(slot) => {
+                ground.join(&mut self.seat, seat);
+                self.seat.owned();
+                self.part += 1;
+                Ok(slot)
+            }
+            Err((cause, packet)) => Err((cause, Parcel::new(packet, seat))),
+        }
     }
 }
 

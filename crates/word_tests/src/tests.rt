@@ -2,7 +2,7 @@
 
 use commons::limits::{Limits, PutRule};
 use mbuf::acts::Reply;
-use pool_model::statement::Statement;
+use pool_statement::statement::Statement;
 use script::replay;
 use script_rows::parts::written;
 use script_rows::{built, caches, desks, packets, pools, sharing};
@@ -20,6 +20,7 @@ mod example;
 mod lost;
 mod memory;
 mod missing;
+mod parcels;
 mod passing;
 mod places;
 mod players;

@@ -1,5 +1,5 @@
 -- How the workers of a pool are ended, one after another.
-use Rattle.std.specs.Prelude.{◌≡◌, ◌++◌, List, [], All, length, reverse, ◌*◌}
+use Rattle.std.specs.Prelude.{◌≡◌, ◌++◌, List, [], All, reverse}
 use Rattle.commons.specs.declared.closed.Closed.{Closed}
 use Rattle.commons.specs.declared.limits.Limits.{Limits}
 use Rattle.ground.specs.Changing.{IsUnmoved}
@@ -8,21 +8,20 @@ use Rattle.ground.specs.Seats.{Grounded, Seated, IsOf}
 use Rattle.ground.specs.declared.known.Known.{Known}
 use Rattle.mbuf.specs.Members.{Member}
 use Rattle.word_pool.specs.Shares.{AreSharesOf}
-use Rattle.word_pool.specs.Workers.{WorkerState, AreWorkers, HasNotActed, IsIdle, IsSeatOf, IsWorker, members_of}
+use Rattle.word_pool.specs.Workers.{WorkerState, AreWorkers, HasNotActed, IsAt, IsIdle, IsSeatOf, members_of}
 use Rattle.word_pool.specs.inside.Closing.{IsClosedBy}
-use Rattle.step_core.specs.World.{worker_part, every_part}
+use Rattle.step_core.specs.World.{every_part}
 
 -- The seats of the last workers are one seat, which is at rest and has their parts, and their
 -- shares are handed in, the last worker's first. The others are left.
 pub record AreJoined (g : Grounded) (all left : List WorkerState) (seat : Seated) (handed : List Member) : Type 0 where
-  pub each : All (IsWorker g) left
+  pub each : All (IsAt g) left
   pub done : List WorkerState
   pub split : all ≡ left ++ done
   pub idle : All IsIdle done
   pub of : IsOf g seat
   pub rest : AtRest seat.known.view
   pub slots : seat.slots ≡ []
-  pub part : seat.known.view.part ≡ length done * worker_part
   pub made : IsSeatOf done seat.known
   pub members : reverse handed ≡ members_of done
   pub shares : AreSharesOf (reverse handed) seat.known.view

@@ -11,7 +11,7 @@ use commons::refusal::Refusal;
 use ground::pool::Ground;
 use mbuf::acts::{Act, Reply};
 use mbuf::packets::Pid;
-use pool_model::statement::Statement;
+use pool_statement::statement::Statement;
 use std::alloc::Global;
 use std::sync::atomic::{AtomicU64, Ordering};
 use std::thread;

@@ -11,7 +11,7 @@ use super::settling::Ending;
 use book::settling::Unsettled;
 use commons::refusal::Refusal;
 use ground::pool::Ground;
-use pool_model::statement::Statement;
+use pool_statement::statement::Statement;
 use script::names::Names;
 use script_text::commands::Script;
 use script_text::parse;

@@ -13,7 +13,7 @@ use commons::refusal::Refusal;
 use ground::pool::Ground;
 use mbuf::acts::{Act, NewPacket, Reply};
 use mbuf::packets::Pid;
-use pool_model::statement::Statement;
+use pool_statement::statement::Statement;
 use std::alloc::Global;
 use std::process::Abort;
 use std::test::Fail;

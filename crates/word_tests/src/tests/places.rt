@@ -2,7 +2,7 @@
 
 use super::same;
 use commons::packet::Seg;
-use pool_model::statement::Statement;
+use pool_statement::statement::Statement;
 use std::alloc::{AllocError, Global};
 use std::process::Abort;
 use std::test::Fail;

@@ -11,7 +11,7 @@ use commons::limits::Limits;
 use commons::refusal::Refusal;
 use ground::pool::Ground;
 use mbuf::acts::{Act, Reply};
-use pool_model::statement::Statement;
+use pool_statement::statement::Statement;
 use script::asking::asked;
 use script::names::Names;
 use script::playing::note;

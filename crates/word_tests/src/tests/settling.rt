@@ -13,7 +13,7 @@ use commons::refusal::Refusal;
 use ground::pool::Ground;
 use ground::seat::GroundSeat;
 use mbuf::packets::Packets;
-use pool_model::statement::Statement;
+use pool_statement::statement::Statement;
 use std::alloc::Global;
 
 /// The one seat that is left, and the book with the shares so far.

@@ -1,7 +1,7 @@
 use Rattle.std.proofs.Common.{◌++◌, ◌∷◌, [], Box, Global, List, Some, length, length-append, map, reverse, arith, ap, ◌∙◌, sym}
 use Rattle.std.proofs.lemmas.List.{map-append}
 use Rattle.std.proofs.lemmas.List.Elements.{All-pop}
-use Rattle.word_pool.specs.Workers.{WorkerState, IsWorker}
+use Rattle.word_pool.specs.Workers.{WorkerState, IsAt}
 use Rattle.mbufpool_c.specs.Labelled.{Labelled, newly}
 use Rattle.mbufpool_c.specs.declared.workers.OwnWorker.{OwnWorker}
 use Rattle.mbufpool_c.proofs.SharedLemmas.{last_number}
@@ -26,7 +26,7 @@ loop-worker-preserved c =
     let more = ap (λ (ms : List WorkerState). length ms) c.in-Some.ensures.items in
     record {
       each =
-          (All-pop (IsWorker c.args.shared.now.value) left rest (Some c.in-Some.worker) c.in-Some.ensures.items
+          (All-pop (IsAt c.args.shared.now.value) left rest (Some c.in-Some.worker) c.in-Some.ensures.items
           c.loop-worker.invariant.each).0;
       numbers = last.1;
       few = omega (arith, c.loop-worker.invariant.few, more, length-append rest (c.in-Some.worker ∷ []));

@@ -1,10 +1,15 @@
 -- A worker's packets are its own where it has none, and its seat names nothing.
-use Rattle.std.proofs.Common.{◌≡◌, ◌++◌, ◌∷◌, [], ◌∙◌, ap, subst}
+use Rattle.std.proofs.Common.{◌≡◌, ◌++◌, ◌∷◌, [], ◌∙◌, ap, subst, sym}
 use Rattle.std.specs.Prelude.{IfOk}
 use Rattle.mbuf.specs.Members.{Member}
+use Rattle.step_core.specs.declared.view.View.{View}
 use Rattle.word_pool.specs.Workers.{WorkerState}
 use Rattle.word_pool.proofs.Crews.{new_is_own}
 use Rattle.word_pool.proofs.pool.add_worker.Goals as goal
+
+-- the seat has a worker's part
+pub new-requires-clause-part : goal.new-requires-clause-part
+new-requires-clause-part c = sym (ap (λ (v : View). v.part) c.requires.unused.view)
 
 -- a worker who has nothing has packets of its own over a seat that names nothing
 pub new-requires-clause-own : goal.new-requires-clause-own

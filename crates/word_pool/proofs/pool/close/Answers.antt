@@ -1,11 +1,9 @@
 -- All workers have all parts, and their shares are what the one seat has.
-use Rattle.std.proofs.Common.{ℕ, ap, ◌∙◌, ◌*◌}
+use Rattle.std.proofs.Common.{◌∙◌}
 use Rattle.word_pool.specs.inside.Joins.{AreClosed}
-use Rattle.word_pool.proofs.Joins.{count_of_workers}
 use Rattle.word_pool.proofs.WholeLeft.{counts_within, left_whole, statement_fresh, statement_of_workers}
 use Rattle.word_pool.proofs.pool.close.Goals as goal
 use Rattle.word_pool.proofs.pool.close.Goals.{In-Ok-closed_by}
-use Rattle.step_core.specs.World.{worker_part}
 
 -- the ground was closed by the one seat of its workers
 closed : (c : In-Ok-closed_by) → AreClosed c.args.ground c.args.workers.items c.joined-seat.result.0.known
@@ -15,7 +13,7 @@ closed c = record {
   closed = c.in-Ok-closed_by.ensures.closed;
   seat = c.joined-seat.ensures.made;
   limits = c.joined-seat.ensures.of.limits;
-  whole = c.joined-seat.ensures.part ∙ ap (λ (n : ℕ). n * worker_part) (count_of_workers c.args.ground c.args.workers.items c.requires);
+  whole = c.joined-seat.ensures.made.part ∙ c.requires.parts;
   desks = c.joined-seat.ensures.desks;
   idle = c.joined-seat.ensures.idle;
   same = c.joined-seat.ensures.members;

@@ -5,7 +5,7 @@ use Rattle.std.proofs.lemmas.Result.{IfOk-weaker}
 use Rattle.commons.specs.declared.limits.Limits.{Limits}
 use Rattle.commons.specs.declared.refusal.Refusal.{Refusal}
 use Rattle.pool_model.specs.Sound.{ListsOnlyPackets}
-use Rattle.pool_model.specs.declared.statement.Statement.{Statement}
+use Rattle.pool_statement.specs.declared.statement.Statement.{Statement}
 use Rattle.book.specs.Listing.{ListsPackets}
 use Rattle.snapshot.specs.Closing.{snapshot_of}
 use Rattle.snapshot.specs.declared.snapshot.Snapshot.{Snapshot}

@@ -54,5 +54,8 @@ last_made c =
 pub returns-clause-workers : goal.returns-clause-workers
 returns-clause-workers c = all_workers c.args.ground.now c.add_worker-2.new.workers.items (last_made c)
 
+pub returns-clause-parts : goal.returns-clause-parts
+returns-clause-parts c = (last_made c).each
+
 pub returns-clause-new : goal.returns-clause-new
 returns-clause-new c = all_new c.args.ground.now c.add_worker-2.new.workers.items (last_made c)

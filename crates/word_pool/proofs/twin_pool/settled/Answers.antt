@@ -4,7 +4,7 @@ use Rattle.std.specs.Prelude.{All, IfOk}
 use Rattle.commons.specs.declared.closed.Closed.{Closed}
 use Rattle.commons.specs.declared.limits.Limits.{Limits}
 use Rattle.commons.specs.declared.refusal.Refusal.{Refusal}
-use Rattle.pool_model.specs.declared.statement.Statement.{Statement}
+use Rattle.pool_statement.specs.declared.statement.Statement.{Statement}
 use Rattle.book.specs.Left.{first_of, second_of}
 use Rattle.snapshot.specs.Snapshots.{ListsItsElements, statement_in}
 use Rattle.ground.specs.Changing.{closed_at_start}

@@ -1,0 +1,31 @@
+use Rattle.std.proofs.Common.{◌≡◌, List, ap, arith, length, refl, subst, ◌∙◌}
+use Rattle.commons.specs.declared.packet.Seg.{Seg}
+use Rattle.mbufpool_c.specs.Labels.{slot_in}
+use Rattle.mbufpool_c.specs.Parcels.{IsSent, TooFewPlaces, Writes}
+use Rattle.mbufpool_c.proofs.ParcelLemmas.{sent_packet, under_way}
+use Rattle.mbufpool_c.proofs.parcels.send.Goals as goal
+
+-- the packet has more segments than there are places
+pub returns-then-places-segs : goal.returns-then-places-segs
+returns-then-places-segs c =
+    TooFewPlaces c.in-Some.packet.now c.in-Some.ensures
+    (omega (arith, c.if-places-segs.true, ap length c.segs-segs.ensures.segs)) c.number-then-places-segs.ensures
+    (record { worker = refl; same = refl; unwritten = refl })
+
+-- the packet is written, and under way
+pub returns-in-Ok : goal.returns-in-Ok
+returns-in-Ok c =
+    let m = c.args.own.now in
+    let n = c.send.new.self in
+    let slot = slot_in m.labels c.args.number in
+    let packet = c.in-Some.packet.now in
+    let sends = c.in-Ok.ensures in
+    let stood = sent_packet slot m.worker n.worker c.in-Ok.sent sends.sends in
+    let packets : packet ≡ c.in-Ok.sent.packet = (let there = c.in-Some.ensures in cc) in
+    IsSent c.in-Ok.sent (let none = c.if-out-ne0.false in omega (arith, none)) sends refl
+    (under_way slot m.worker n.worker c.in-Ok.sent c.into_parts-seat.result.1 packet c.fill.new.self sends.sends
+    c.into_parts-seat.ensures.parts.1 c.into_parts-seat.ensures.kept c.owned.ensures c.knows_desks.ensures
+    c.segs-segs.ensures.packet c.in-Some.ensures
+    (c.fill.ensures.segments ∙ ap length c.segs-segs.ensures.segs) c.fill.ensures.table c.fill.ensures.seat)
+    (subst (λ (segs : List Seg). Writes segs c.args.places.now c.write.new.out) (c.segs-segs.ensures.segs ∙ packets)
+    c.write.ensures)
