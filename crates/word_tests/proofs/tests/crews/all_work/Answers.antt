@@ -1,0 +1,19 @@
+-- Each worker is left the same by its call, so they are all the workers.
+use Rattle.std.proofs.Common.{slice_index_or, subst}
+use Rattle.word_pool.specs.Workers.{AllStay, Stays, WorkerState}
+use Rattle.word_tests.proofs.tests.crews.all_work.Goals as goal
+
+pub returns : goal.returns
+returns g c =
+    let stay : AllStay c.args.workers.now c.for_each_mut.new.s = record {
+      as_many = c.for_each_mut.auto.s;
+      each = λ i d l.
+          let changed = (c.for_each_mut.ensures i d l).1 in
+          subst (λ (x : WorkerState). Stays x (slice_index_or c.for_each_mut.new.s i d)) changed.argument_is
+          (subst (λ (x : WorkerState). Stays changed.argument.now x) changed.left changed.call);
+    } in
+    record {
+      workers =
+          c.workers_who_stay_are_all.ensures c.args.ground.now c.args.workers.now c.for_each_mut.new.s
+          c.requires.workers stay;
+    }
