@@ -120,8 +120,8 @@ pub record NothingSent (m n : Labelled) (was out : Parcel) (places bytes : List 
   pub same : out ≡ was
   pub unwritten : bytes ≡ places
 
--- what a send of the packet of this number is answered, and does with the parcel and the places for its
--- segments
+-- What a send of the packet of this number is answered, and does with the parcel and the places for its
+-- segments. Of two causes for a refusal the one that stands first here is answered.
 pub data SendsAs (number : ℕ) (m : Labelled) (was : Parcel) (places : List ParcelSegment) (status : ℕ)
     (n : Labelled) (out : Parcel) (bytes : List ParcelSegment) : Type 0 where
   -- a parcel is there still
@@ -132,6 +132,7 @@ pub data SendsAs (number : ℕ) (m : Labelled) (was : Parcel) (places : List Par
       SendsAs number m was places status n out bytes
   -- no packet has the number
   IsNone :
+      was.segments ≡ 0 →
       packet_in m number ≡ None →
       status ≡ number_of NoSuchPacket →
       NothingSent m n was out places bytes →
@@ -139,6 +140,7 @@ pub data SendsAs (number : ℕ) (m : Labelled) (was : Parcel) (places : List Par
   -- it has more segments than there are places
   TooFewPlaces :
       (segs : List Seg) →
+      was.segments ≡ 0 →
       packet_in m number ≡ Some segs →
       length places < length segs →
       status ≡ number_of NoRoom →
@@ -146,6 +148,10 @@ pub data SendsAs (number : ℕ) (m : Labelled) (was : Parcel) (places : List Par
       SendsAs number m was places status n out bytes
   -- the worker has a part of 1 left
   NoPartLeft :
+      (segs : List Seg) →
+      was.segments ≡ 0 →
+      packet_in m number ≡ Some segs →
+      length segs ≤ length places →
       m.worker.seat.known.view.part < 2 →
       status ≡ no_part →
       NothingSent m n was out places bytes →

@@ -1,14 +1,14 @@
 use Rattle.std.proofs.Common.{◌≡◌, List, ap, arith, length, refl, subst, ◌∙◌}
 use Rattle.commons.specs.declared.packet.Seg.{Seg}
 use Rattle.mbufpool_c.specs.Labels.{slot_in}
-use Rattle.mbufpool_c.specs.Parcels.{IsSent, TooFewPlaces, Writes}
+use Rattle.mbufpool_c.specs.Parcels.{IsSent, NoPartLeft, TooFewPlaces, Writes}
 use Rattle.mbufpool_c.proofs.ParcelLemmas.{sent_packet, under_way}
 use Rattle.mbufpool_c.proofs.parcels.send.Goals as goal
 
 -- the packet has more segments than there are places
 pub returns-then-places-segs : goal.returns-then-places-segs
 returns-then-places-segs c =
-    TooFewPlaces c.in-Some.packet.now c.in-Some.ensures
+    TooFewPlaces c.in-Some.packet.now (let none = c.if-out-ne0.false in omega (arith, none)) c.in-Some.ensures
     (omega (arith, c.if-places-segs.true, ap length c.segs-segs.ensures.segs)) c.number-then-places-segs.ensures
     (record { worker = refl; same = refl; unwritten = refl })
 
@@ -29,3 +29,11 @@ returns-in-Ok c =
     (c.fill.ensures.segments ∙ ap length c.segs-segs.ensures.segs) c.fill.ensures.table c.fill.ensures.seat)
     (subst (λ (segs : List Seg). Writes segs c.args.places.now c.write.new.out) (c.segs-segs.ensures.segs ∙ packets)
     c.write.ensures)
+
+-- there is room, and no part for the parcel
+pub returns-then-part-lt2 : goal.returns-then-part-lt2
+returns-then-part-lt2 c =
+    NoPartLeft c.in-Some.packet.now (let none = c.if-out-ne0.false in omega (arith, none)) c.in-Some.ensures
+    (omega (arith, c.if-places-segs.false, ap length c.segs-segs.ensures.segs))
+    (let few = c.if-part-lt2.true in omega (arith, few, c.part.ensures)) refl
+    (record { worker = refl; same = refl; unwritten = refl })
