@@ -516,24 +516,16 @@ make_workers(struct worker_pool *p, const struct cell *cell)
 	return true;
 }
 
+/* How a packet is passed on by one of these ways, to and fro or on and on. */
 static void
-choose_desks(const struct cell *cell, struct pool *pool)
+choose(const struct cell *cell, struct pool *pool, const struct calls *calls,
+	void (*hand)(unsigned int, struct pool *), void (*send)(enum workload, struct pool *))
 {
-	pool->calls = &desks;
+	pool->calls = calls;
 	if (workloads[cell->workload].form == HANDED)
-		desks_hand(cell->threads, pool);
+		hand(cell->threads, pool);
 	else
-		desks_send(cell->workload, pool);
-}
-
-static void
-choose_parcels(const struct cell *cell, struct pool *pool)
-{
-	pool->calls = &parcels;
-	if (workloads[cell->workload].form == HANDED)
-		parcels_hand(cell->threads, pool);
-	else
-		parcels_send(cell->workload, pool);
+		send(cell->workload, pool);
 }
 
 static bool
@@ -558,9 +550,9 @@ open_workers(const struct subject *subject, const struct cell *cell, struct pool
 		pool->user[i] = &p->user[i];
 	}
 	if (has_parcels)
-		choose_parcels(cell, pool);
+		choose(cell, pool, &parcels, parcels_hand, parcels_send);
 	else if (form == HANDED || form == SENT)
-		choose_desks(cell, pool);
+		choose(cell, pool, &desks, desks_hand, desks_send);
 	else {
 		pool->calls = &packets;
 		pool->play = packets_plays[cell->workload];
