@@ -167,6 +167,7 @@ struct worker_user {
 	unsigned int desk;     /* over which the next packet is sent or received */
 	struct under_way *parcels; /* one for each element */
 	struct under_way *parcel;  /* of the packet that is handed over, and its places */
+	struct under_way own;      /* a parcel that is copied in and out of them */
 	struct rte_ring *place[2];
 } __rte_cache_aligned;
 
@@ -471,14 +472,48 @@ static const struct calls parcels = {
 SEND_PLAYS(parcels)
 HAND_PLAYS(parcels)
 
+/* The parcel itself goes over the ring: what is left of it here is no parcel any more. */
+static __rte_always_inline bool
+offer_parcel_copy(void *user, unsigned int place)
+{
+	struct worker_user *u = user;
+
+	if (mbufpool_worker_send(&u->worker, u->slot, &u->own.parcel, 1) != 0 ||
+		rte_ring_enqueue_elem(u->place[place], &u->own, sizeof(u->own)) != 0)
+		return false;
+	u->own.parcel.segments = 0;
+	return true;
+}
+
+static __rte_always_inline bool
+take_parcel_copy(void *user, unsigned int place)
+{
+	struct worker_user *u = user;
+
+	return rte_ring_dequeue_elem(u->place[place], &u->own, sizeof(u->own)) == 0 &&
+		mbufpool_worker_receive(&u->worker, &u->own.parcel, &u->slot) == 0;
+}
+
+static const struct calls parcel_copies = {
+	.offer = offer_parcel_copy,
+	.take = take_parcel_copy,
+	.ready = make_first,
+	.rest = rest,
+	.write = write_serial,
+	.read = read_serial,
+	.missing = missing_from_workers,
+	.close = end_workers,
+};
+HAND_PLAYS(parcel_copies)
+
 static bool
-make_parcels(struct worker_pool *p, const struct cell *cell)
+make_parcels(struct worker_pool *p, const struct cell *cell, size_t place)
 {
 	struct worker_user *first = &p->user[0];
 	unsigned int i;
 
 	first->parcels = calloc(cell->population, sizeof(first->parcels[0]));
-	if (first->parcels == NULL || !make_places(first->place, sizeof(void *), 0))
+	if (first->parcels == NULL || !make_places(first->place, place, 0))
 		return false;
 	for (i = 1; i < cell->threads; i++) {
 		p->user[i].parcels = first->parcels;
@@ -531,7 +566,8 @@ choose(const struct cell *cell, struct pool *pool, const struct calls *calls,
 static bool
 open_workers(const struct subject *subject, const struct cell *cell, struct pool *pool)
 {
-	const bool has_parcels = strcmp(subject->name, "parcel") == 0;
+	const bool is_copied = strcmp(subject->name, "parcel_copy") == 0;
+	const bool has_parcels = is_copied || strcmp(subject->name, "parcel") == 0;
 	const enum form form = workloads[cell->workload].form;
 	struct worker_pool *p = aligned_alloc(RTE_CACHE_LINE_SIZE, sizeof(*p));
 	unsigned int i;
@@ -540,7 +576,8 @@ open_workers(const struct subject *subject, const struct cell *cell, struct pool
 		return false;
 	memset(p, 0, sizeof(*p));
 	pool->at = p;
-	if (!make_workers(p, cell) || (has_parcels && !make_parcels(p, cell))) {
+	if (!make_workers(p, cell) || (has_parcels &&
+		!make_parcels(p, cell, is_copied ? sizeof(struct under_way) : sizeof(void *)))) {
 		end_workers(pool);
 		return false;
 	}
@@ -549,7 +586,9 @@ open_workers(const struct subject *subject, const struct cell *cell, struct pool
 			form == CLONES ? size_of(cell->workload) : form == HANDED && i == 0;
 		pool->user[i] = &p->user[i];
 	}
-	if (has_parcels)
+	if (is_copied)
+		choose(cell, pool, &parcel_copies, parcel_copies_hand, NULL);
+	else if (has_parcels)
 		choose(cell, pool, &parcels, parcels_hand, parcels_send);
 	else if (form == HANDED || form == SENT)
 		choose(cell, pool, &desks, desks_hand, desks_send);
@@ -569,4 +608,10 @@ const struct subject worker_subject = {
 const struct subject parcel_subject = {
 	.name = "parcel",
 	.open = { [SENT] = open_workers, [HANDED] = open_workers },
+};
+
+const struct subject parcel_copy_subject = {
+	.name = "parcel_copy",
+	.most_threads = 2,
+	.open = { [HANDED] = open_workers },
 };

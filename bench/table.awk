@@ -256,6 +256,7 @@ function handovers() {
     handovers_row("a desk in plain C", "plain")
     handovers_row("a desk from C, `mbufpool_worker_offer` and `_take`", "worker")
     handovers_row("a parcel, whose address goes over such an `rte_ring`", "parcel")
+    handovers_row("a parcel of 20 bytes, over an `rte_ring` of such elements", "parcel_copy")
 }
 
 END {

@@ -670,7 +670,9 @@ void mbufpool_guard_end(struct mbufpool_guard *worker);
  * mbufpool_worker_receive are the same with the packet's bytes in the caller's memory, and the pointer
  * to these on the ring. An array of parcels, one for each element, needs no memory later: a packet is
  * sent in that of its first element, which no other packet has for its own while it stands or is under
- * way. Desks are the library's own, and need no ring. */
+ * way. Or the parcel itself goes over a ring of elements of its size (rte_ring_create_elem), which is
+ * faster for one segment: what is left of it where it was written gets zeros in `segments`. Desks are the
+ * library's own, and need no ring. */
 
 /** A worker, or none where the pointer is null. The pointer is the library's. */
 struct mbufpool_worker { void *at; };
@@ -1071,6 +1073,10 @@ static inline uint32_t mbufpool_worker_receive(struct mbufpool_worker *worker,
 {
 	if (worker == NULL)
 		return MBUFPOOL_STRANGER;
+#if defined(__x86_64__) && defined(__GNUC__)
+	/* Its cache line comes from the lcore that wrote it, and is written here: one way, not two. */
+	__asm__ volatile("prefetchw %0" : : "m"(*parcel));
+#endif
 	return mbufpool_worker_receive_segments(worker, parcel,
 		(const struct mbufpool_parcel_segment *)(parcel + 1), parcel->segments, slot);
 }
@@ -1541,6 +1547,10 @@ static inline uint32_t mbufpool_nullable_worker_receive_segments(struct mbufpool
 {
 	if (worker == NULL)
 		return MBUFPOOL_STRANGER;
+#if defined(__x86_64__) && defined(__GNUC__)
+	/* Its cache line comes from the lcore that wrote it, and is written here: one way, not two. */
+	__asm__ volatile("prefetchw %0" : : "m"(*parcel));
+#endif
 	return mbufpool_worker_receive_segments(worker, parcel, segments, n, slot);
 }
 

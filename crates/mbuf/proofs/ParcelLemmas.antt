@@ -32,17 +32,11 @@ standing_had guests m s slot packet own there = record {
   distinct = λ once i. omega (arith, once i, in_slot_headed guests m s slot packet i own there);
 }
 
--- the packet that was taken out is the one that stood there
-pub taken_out_is : (m after : Member) (slot : ℕ) (packet : List Seg) → TakesOut m slot (Ok packet) after →
-    (get_or m.table slot None ≡ Some packet)
-taken_out_is m after slot packet (NothingToTake none answer same) = absurd cc
-taken_out_is m after slot packet (WasTakenOut segs there answer is) = cc
-
--- and its slot is free
-pub taken_out_left : (m after : Member) (slot : ℕ) (packet : List Seg) → TakesOut m slot (Ok packet) after →
+-- where a packet was taken out, its slot is free
+pub taken_out_left : (m after : Member) (slot : ℕ) → TakesOut m slot (Ok tt) after →
     after ≡ record m { table = set m.table slot None }
-taken_out_left m after slot packet (NothingToTake none answer same) = absurd cc
-taken_out_left m after slot packet (WasTakenOut segs there answer is) = is
+taken_out_left m after slot (NothingToTake none answer same) = absurd cc
+taken_out_left m after slot (WasTakenOut segs there answer is) = is
 
 -- the packet that was brought in stands in what was the lowest free slot
 pub brought_in_left : (m after : Member) (slot : ℕ) (packet : List Seg) → BringsIn m packet (Ok slot) after →
@@ -54,10 +48,9 @@ brought_in_left m after slot packet (WasBroughtIn place free answer is) =
 
 -- without a packet that was taken out, the others are the worker's own
 pub own_taken_out : (guests : ℕ → ℕ) (m after : Member) (s t : Side) (slot : ℕ) (packet : List Seg) → OwnWith guests m s →
-    TakesOut m slot (Ok packet) after → IsOffer packet s t → OwnWith guests after t
-own_taken_out guests m after s t slot packet own took sent =
-    let stood = taken_out_is m after slot packet took in
-    subst (λ (n : Member). OwnWith guests n t) (sym (taken_out_left m after slot packet took))
+    get_or m.table slot None ≡ Some packet → TakesOut m slot (Ok tt) after → IsOffer packet s t → OwnWith guests after t
+own_taken_out guests m after s t slot packet own stood took sent =
+    subst (λ (n : Member). OwnWith guests n t) (sym (taken_out_left m after slot took))
     (own_offered guests m s t slot packet own (stands_within m.table slot packet stood) stood sent)
 
 -- with a packet that was brought in, all are the worker's own

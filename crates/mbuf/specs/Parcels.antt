@@ -1,6 +1,6 @@
--- What a worker's calls do that move a packet out of a slot to whoever sends it, and into a slot
--- from whoever sent it: for each case the answer, and what the worker has afterwards. No call is
--- made on the shared pool. And whose the packet's holds are then.
+-- What a worker's calls do that take a packet out of a slot, for whoever sends it, and bring one into
+-- a slot, from whoever sent it: for each case the answer, and what the worker has afterwards. No call
+-- is made on the shared pool. And whose the packet's holds are then.
 use Rattle.std.specs.Prelude.{ℕ, ◌≡◌, ◌≤◌, List, slice_index_or, slice_set, Some, None, Result, Ok, Err}
 use Rattle.commons.specs.Bag.{bag}
 use Rattle.commons.specs.Calls.{IsOffer, IsTake, Side}
@@ -13,28 +13,27 @@ use Rattle.mbuf.specs.Own.{OwnWith}
 use Rattle.mbuf.specs.PacketRules.{free_slot}
 
 -- what it does to take the packet out of a slot
-pub data TakesOut (m : Member) (slot : ℕ) (answer : Result (List Seg) Refusal) (after : Member) : Type 0 where
+pub data TakesOut (m : Member) (slot : ℕ) (answer : Result (Unit {0}) Refusal) (after : Member) : Type 0 where
   -- the slot is empty, or there is none of this number
   NothingToTake :
       slice_index_or m.table slot None ≡ None →
       answer ≡ Err NoSuchPacket →
       after ≡ m →
       TakesOut m slot answer after
-  -- the packet is the answer, and its slot is free
+  -- a packet stood there, and its slot is free
   WasTakenOut :
       (segs : List Seg) →
       slice_index_or m.table slot None ≡ Some segs →
-      answer ≡ Ok segs →
+      answer ≡ Ok tt →
       after ≡ record m { table = slice_set m.table slot None } →
       TakesOut m slot answer after
 
 -- what it does to bring a packet in
-pub data BringsIn (m : Member) (packet : List Seg) (answer : Result ℕ (Refusal × List Seg))
-    (after : Member) : Type 0 where
-  -- no slot is free: the packet comes back
+pub data BringsIn (m : Member) (packet : List Seg) (answer : Result ℕ Refusal) (after : Member) : Type 0 where
+  -- no slot is free
   NoSlotFor :
       free_slot m.table ≡ None →
-      answer ≡ Err (PacketsFull, packet) →
+      answer ≡ Err PacketsFull →
       after ≡ m →
       BringsIn m packet answer after
   -- the packet stands in the lowest free slot
@@ -65,7 +64,7 @@ StandingPacketsAreHad =
 abbrev pub TakingOutLeavesOwn : Type 0
 TakingOutLeavesOwn =
     (guests : ℕ → ℕ) (m after : Member) (s t : Side) (slot : ℕ) (packet : List Seg) → OwnWith guests m s →
-    TakesOut m slot (Ok packet) after → IsOffer packet s t → OwnWith guests after t
+    slice_index_or m.table slot None ≡ Some packet → TakesOut m slot (Ok tt) after → IsOffer packet s t → OwnWith guests after t
 
 -- Once a packet was brought in, the packets are the worker's own where its side has all that the
 -- packet holds in addition, and the packet's own elements as headers, as a take leaves it.

@@ -18,6 +18,7 @@ use commons::limits::Limits;
 use commons::packet::{Packet, Seg};
 use commons::refusal::Refusal;
 use mempool::worker::Worker;
+pub use parcels::rewrite;
 use std::alloc::{AllocError, Global};
 use std::marker::Model;
 

@@ -48,14 +48,6 @@ read_data bytes k d low is =
 
 -- ---- a packet under way
 
--- what was sent: the packet that stood in the slot
-pub sent_packet : (slot : ℕ) (m n : WorkerState) (p : Parcelled) → Sends slot m (Ok p) n → get_or m.member.table slot None ≡ Some p.packet
-sent_packet slot m n p (NoPartLeft few answer same) = absurd cc
-sent_packet slot m n p (NothingToSend none answer same) = absurd cc
-sent_packet slot m n p (WasSent q there seat answer is) =
-    let same : p ≡ q = cc in
-    there ∙ ap (λ (x : Parcelled). Some x.packet) (sym same)
-
 -- nothing is refused where a packet stands there and a part is left
 pub sent_always : (slot : ℕ) (m n : WorkerState) (cause : Unsent) (packet : List Seg) →
     get_or m.member.table slot None ≡ Some packet → 2 ≤ m.seat.known.view.part → Sends slot m (Err cause) n → ⊥

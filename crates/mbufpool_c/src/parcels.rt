@@ -1,6 +1,6 @@
 //! Packets that pass from one worker of a pool to another, by bytes that C keeps.
 
-ghost use Rattle.std.specs.Prelude.{◌≡◌, ◌∷◌, ◌≤◌, [], None, length, map};
+ghost use Rattle.std.specs.Prelude.{◌≡◌, ◌≢◌, ◌∷◌, ◌≤◌, [], None, length, map};
 ghost use Rattle.std.specs.Option.{MatchOption};
 ghost use Rattle.commons.specs.Packets.{HasItsData, IsPacket};
 ghost use Rattle.ground.specs.Own.{KnowsDesks, Owned};
@@ -15,7 +15,6 @@ use commons::packet::{MAX_SEGS, Packet, Seg};
 use commons::refusal::Refusal;
 use ground::seat::GroundSeat;
 use std::alloc::Global;
-use word_pool::parcel::Parcel as UnderWay;
 
 /// The status of a send by a worker that has a part of 1 left.
 pub const NO_PART: u32 = 31;
@@ -169,8 +168,7 @@ fn send(own: &mut OwnWorker, number: u32, out: &mut Parcel, places: &mut [Parcel
     write(segs, places);
     let count = segs.len() as u32;
     match own.send(number) {
-        Ok(sent) => {
-            let (_, seat) = sent.into_parts();
+        Ok(seat) => {
             seat.owned();
             seat.knows_desks();
             out.fill(count, seat);
@@ -182,18 +180,17 @@ fn send(own: &mut OwnWorker, number: u32, out: &mut Parcel, places: &mut [Parcel
 
 /// Lets a worker receive a packet under way, and gives C its slot by its label.
 #[inline(always)]
-fn bring(own: &mut OwnWorker, parcel: &mut Parcel, packet: Packet, out: &mut u32) -> u32
-    requires { (p : Parcelled) × IsUnderWay own.old.worker p parcel.old × (packet ≡ p.packet) }
+fn bring(own: &mut OwnWorker, parcel: &mut Parcel, segs: &[Seg], out: &mut u32) -> u32
+    requires { (p : Parcelled) × IsUnderWay own.old.worker p parcel.old × (segs.now ≡ p.packet) }
     ensures { ReceivesAs own.old parcel.old result own.new parcel.new out.old out.new }
 {
     let segments = parcel.segments;
-    match own.receive(UnderWay::new(packet, parcel.take())) {
+    match own.receive(segs, parcel.take()) {
         Ok(slot) => {
             *out = own.label(slot);
             0
         }
-        Err((cause, back)) => {
-            let (_, seat) = back.into_parts();
+        Err((cause, seat)) => {
             parcel.fill(segments, seat);
             cause.number()
         }
@@ -207,10 +204,43 @@ fn receive(own: &mut OwnWorker, parcel: &mut Parcel, bytes: &[ParcelSegment], ou
     ensures { ReceivesAs own.old parcel.old result own.new parcel.new out.old out.new }
 {
     if parcel.segments == 0 {
-        return Refusal::NoSuchPacket.number();
+        Refusal::NoSuchPacket.number()
+    } else if bytes.len() == 1 {
+        receive_one(own, parcel, bytes[0], out)
+    } else {
+        receive_several(own, parcel, bytes, out)
     }
+}
+
+/// Lets a worker receive the packet of one segment.
+#[inline(always)]
+fn receive_one(own: &mut OwnWorker, parcel: &mut Parcel, only: ParcelSegment, out: &mut u32) -> u32
+    requires some { parcel.old.segments ≢ 0 }
+    requires whole { IsWhole own.old.worker parcel.old (only ∷ []) }
+    ensures { ReceivesAs own.old parcel.old result own.new parcel.new out.old out.new }
+{
+    match read(only) {
+        Some(seg) => bring(own, parcel, &[seg], out),
+        // Bytes that are as they were written are a packet's.
+        None => unreachable!(),
+    }
+}
+
+/// Lets a worker receive the packet of several segments. It stands apart, since it fills room for as
+/// many as there may be.
+#[inline(never)]
+fn receive_several(
+    own: &mut OwnWorker,
+    parcel: &mut Parcel,
+    bytes: &[ParcelSegment],
+    out: &mut u32,
+) -> u32
+    requires some { parcel.old.segments ≢ 0 }
+    requires whole { IsWhole own.old.worker parcel.old bytes.now }
+    ensures { ReceivesAs own.old parcel.old result own.new parcel.new out.old out.new }
+{
     match packet_of(bytes) {
-        Some(packet) => bring(own, parcel, packet, out),
+        Some(packet) => bring(own, parcel, packet.segs(), out),
         // Bytes that are as they were written are a packet's.
         None => unreachable!(),
     }

@@ -3,26 +3,29 @@
 ghost use Rattle.std.specs.Prelude.{◌≡◌, IfOk, None, Some, length, slice_index_or};
 ghost use Rattle.std.specs.Option.{MatchOption};
 ghost use Rattle.commons.specs.Calls.{with_list};
+ghost use Rattle.commons.specs.Packets.{IsPacket};
 ghost use Rattle.ground.specs.Seats.{IsOf};
 ghost use Rattle.mbuf.specs.Acts.{HasRoom, allocated, allocated_bulk, as_reply, cloned, first_elem, freed};
 ghost use Rattle.mbufpool_c.specs.Labelled.{ActsBy, if_done as labels_if_done, in_slots as act_in_slots, labels_after, newly};
 ghost use Rattle.mbufpool_c.specs.Labels.{label_in, slot_in};
-ghost use Rattle.mbufpool_c.specs.Parcels.{ReceivesBy, SendsBy, pool_of};
+ghost use Rattle.mbufpool_c.specs.Parcels.{ReceivesBy, SendsBy, packet_in, pool_of};
 ghost use Rattle.mbufpool_c.specs.Segments.{seg_at};
 ghost use Rattle.mbufpool_c.specs.Statuses.{WorkerReads};
+ghost use Rattle.word_pool.specs.Parcels.{IsParcel, stood, with_packet, with_stood};
 ghost use Rattle.word_pool.specs.Workers.{IsAt};
 
 use crate::labels::Labels;
 use crate::shared::{Returned, SharedPool};
 use commons::packet::{Packet, Seg};
 use commons::refusal::Refusal;
+use ground::seat::GroundSeat;
 use mbuf::acts::{Act, Answer};
 use mbuf::freed::Freed;
 use mbuf::packets::Pid;
 use std::alloc::AllocError;
 use std::marker::Model;
 use std::sync::Arc;
-use word_pool::parcel::{Parcel, Unsent};
+use word_pool::parcel::Unsent;
 use word_pool::worker::WordWorker;
 
 /// A worker, with what its pool's workers share, which is freed with the last of its workers, and
@@ -215,29 +218,41 @@ impl OwnWorker {
         self.worker.clone_packet(self.shared.ground(), slot)
     }
 
-    /// Takes the packet of this number out of its slot, as a parcel. The number stands for no packet
-    /// then.
+    /// Takes the packet of this number out of its slot, and answers the seat of its parcel, which has
+    /// what it holds. The number stands for no packet then.
     #[inline(always)]
-    pub(crate) fn send(&mut self, number: u32) -> Result<Parcel, Unsent>
-        ensures { SendsBy number self.old result self.new }
+    pub(crate) fn send(&mut self, number: u32) -> Result<GroundSeat, Unsent>
+        ensures sends { SendsBy number self.old (with_stood (packet_in self.old number) result) self.new }
+        ensures parcel { IfOk result (λ seat. IsParcel (record {
+          packet = stood (packet_in self.old number);
+          seat = seat;
+        })) }
     {
         let slot = self.labels.slot(number);
-        match self.worker.send(self.shared.ground(), slot) {
-            Ok(parcel) => {
+        match self.worker.send_seat(self.shared.ground(), slot) {
+            Ok(seat) => {
                 self.labels.go(slot);
-                Ok(parcel)
+                Ok(seat)
             }
             Err(cause) => Err(cause),
         }
     }
 
-    /// Receives a parcel of its pool, and answers the slot in which the packet stands.
+    /// Receives the parcel of these segments and this seat, which is of its pool, and answers the
+    /// slot in which the packet stands.
     #[inline(always)]
-    pub(crate) fn receive(&mut self, parcel: Parcel) -> Result<Pid, (Refusal, Parcel)>
-        requires { IsOf (pool_of self.old.worker) parcel.seat }
-        ensures { ReceivesBy parcel self.old result self.new }
+    pub(crate) fn receive(
+        &mut self,
+        segs: &[Seg],
+        seat: GroundSeat,
+    ) -> Result<Pid, (Refusal, GroundSeat)>
+        requires of { IsOf (pool_of self.old.worker) seat }
+        requires packet { IsPacket segs.now }
+        requires parcel { IsParcel (record { packet = segs.now; seat = seat }) }
+        ensures { ReceivesBy (record { packet = segs.now; seat = seat }) self.old
+            (with_packet segs.now result) self.new }
     {
-        self.worker.receive(self.shared.ground(), parcel)
+        self.worker.receive_seat(self.shared.ground(), segs, seat)
     }
 
     /// The packet of this number, where there is one.

@@ -1,5 +1,5 @@
 -- What a worker has without a packet that it has sent, and with one that it has received.
-use Rattle.std.proofs.Common.{◌≡◌, ℕ, ◌<◌, ◌++◌, true, false, append-nil, Option, Result, Ok, Err, List, [], refl, sym, ap, ◌∙◌, subst, arith}
+use Rattle.std.proofs.Common.{◌≡◌, ℕ, ◌<◌, ◌++◌, true, false, append-nil, get_or, Option, Some, None, Ok, Err, List, [], refl, sym, ap, ◌∙◌, subst, arith}
 use Rattle.std.proofs.lemmas.Bool.{cond-true, cond-false, lt-ltb, le-ltb}
 use Rattle.commons.specs.Bag.{bag}
 use Rattle.commons.proofs.Bags.{bag-append}
@@ -14,14 +14,14 @@ use Rattle.ground.specs.declared.known.Known.{Known}
 use Rattle.mbuf.specs.Members.{Member}
 use Rattle.mbuf.specs.Own.{no_guests}
 use Rattle.mbuf.specs.Parcels.{BringsIn, NoSlotFor, WasBroughtIn, HasPacket, TakesOut, NothingToTake, WasTakenOut}
-use Rattle.mbuf.proofs.ParcelLemmas.{brought_in_left, own_brought_in, own_taken_out, taken_out_is, taken_out_left}
+use Rattle.mbuf.proofs.ParcelLemmas.{brought_in_left, own_brought_in, own_taken_out, standing_had, taken_out_left}
 use Rattle.stack_lf.specs.Sides.{side_of}
 use Rattle.stack_lf.proofs.Meeting.{kept}
 use Rattle.stack_lf.proofs.Storing.{bag-minus}
 use Rattle.step_core.specs.Bags.{has, minus}
 use Rattle.step_core.specs.declared.view.View.{View}
-use Rattle.word_pool.specs.Parcels.{IsParcel, Parcelled, Receives, NoSlotFree, WasReceived, Sends, NothingToSend, WasSent}
-use Rattle.word_pool.specs.declared.parcel.Unsent.TheVariants.{NoSuchPacket}
+use Rattle.mbuf.specs.PacketRules.{free_slot}
+use Rattle.word_pool.specs.Parcels.{IsParcel, Parcelled, Receives, NoSlotFree, WasReceived, Sends, WasSent, with_stood}
 use Rattle.word_pool.specs.Workers.{IsIdle, IsSameWorker}
 use Rattle.word_pool.specs.inside.Kept.{worker_at}
 
@@ -71,14 +71,17 @@ received_side p s o lying is = record {
 }
 
 -- a worker that has sent a packet is between its acts, as before
-pub sent_idle : (p : List Seg) (slot : ℕ) (s t : Seated) (m n : Member) → IsIdle (worker_at s m) → HasPacket p (side_of s) →
-    TakesOut m slot (Ok p) n → t ≡ record s { known = left_by_parcel p s.known } → IsIdle (worker_at t n)
-sent_idle p slot s t m n idle had took is =
+pub sent_idle : (p : List Seg) (slot : ℕ) (s t : Seated) (m n : Member) → IsIdle (worker_at s m) →
+    get_or m.table slot None ≡ Some p → TakesOut m slot (Ok tt) n → t ≡ record s { known = left_by_parcel p s.known } →
+    IsIdle (worker_at t n)
+sent_idle p slot s t m n idle there took is =
     let u : Seated = record s { known = left_by_parcel p s.known } in
     let here : IsIdle (worker_at u n) = record {
       rest = record { zeros = idle.rest.zeros; credit = idle.rest.credit; chain = idle.rest.chain; work = idle.rest.work };
       slots = idle.slots;
-      own = own_taken_out no_guests m n (side_of s) (side_of u) slot p idle.own took (sent_side p s had);
+      own =
+          own_taken_out no_guests m n (side_of s) (side_of u) slot p idle.own there took
+          (sent_side p s (standing_had no_guests m (side_of s) slot p idle.own there));
     } in
     subst (λ (x : Seated). IsIdle (worker_at x n)) (sym is) here
 
@@ -111,43 +114,30 @@ is_parcel p s u is slots = record {
 
 -- the packet went from its slot into the parcel
 pub sent : (g : Grounded) (slot : ℕ) (s t u : Seated) (m n : Member) (p : List Seg) → IsOf g s → IsOf g u →
-    TakesOut m slot (Ok p) n → t ≡ record s { known = left_by_parcel p s.known } → u.known ≡ lent_parcel p s.known →
-    u.slots ≡ [] → Sends slot (worker_at s m) (Ok (record { packet = p; seat = u })) (worker_at t n)
-sent g slot s t u m n p of at took is known slots =
-    let there : Parcelled = record { packet = p; seat = u } in
+    get_or m.table slot None ≡ Some p → TakesOut m slot (Ok tt) n → t ≡ record s { known = left_by_parcel p s.known } →
+    u.known ≡ lent_parcel p s.known → u.slots ≡ [] →
+    Sends slot (worker_at s m) (with_stood (get_or m.table slot None) (Ok u)) (worker_at t n)
+sent g slot s t u m n p of at there took is known slots =
+    let parcel : Parcelled = record { packet = p; seat = u } in
     let left : Seated = record s { known = left_by_parcel p s.known } in
-    WasSent there (taken_out_is m n slot p took) (record { table = at.table ∙ sym of.table; known = known; slots = slots })
-    refl
-    (ap (λ (x : Seated). worker_at x n) is ∙ ap (λ (x : Member). worker_at left x) (taken_out_left m n slot p took))
+    WasSent parcel there (record { table = at.table ∙ sym of.table; known = known; slots = slots })
+    (ap (λ (place : Option (List Seg)). with_stood place (Ok u)) there)
+    (ap (λ (x : Seated). worker_at x n) is ∙ ap (λ (x : Member). worker_at left x) (taken_out_left m n slot took))
 
--- nothing stood in the slot
-pub unsent : (slot : ℕ) (s : Seated) (m n : Member) (cause : Refusal) → TakesOut m slot (Err cause) n →
-    Sends slot (worker_at s m) (Err NoSuchPacket) (worker_at s n)
-unsent slot s m n cause (NothingToTake none answer same) = NothingToSend none refl (ap (λ (x : Member). worker_at s x) same)
-unsent slot s m n cause (WasTakenOut segs there answer is) = absurd cc
-
--- where nothing stood in the slot, nothing has changed
-pub untaken : (m n : Member) (slot : ℕ) (cause : Refusal) → TakesOut m slot (Err cause) n → n ≡ m
-untaken m n slot cause (NothingToTake none answer same) = same
-untaken m n slot cause (WasTakenOut segs there answer is) = absurd cc
+-- where a packet stands, it is taken out
+pub always_taken : (m n : Member) (slot : ℕ) (p : List Seg) (cause : Refusal) → get_or m.table slot None ≡ Some p →
+    TakesOut m slot (Err cause) n → ⊥
+always_taken m n slot p cause there (NothingToTake none answer same) = absurd cc
+always_taken m n slot p cause there (WasTakenOut segs stands answer is) = absurd cc
 
 -- the worker is the same, but for its part
-pub sent_same : (slot : ℕ) (s t : Seated) (m n : Member) (p : List Seg) → TakesOut m slot (Ok p) n →
+pub sent_same : (slot : ℕ) (s t : Seated) (m n : Member) (p : List Seg) → TakesOut m slot (Ok tt) n →
     t ≡ record s { known = left_by_parcel p s.known } → IsSameWorker (worker_at s m) (worker_at t n)
 sent_same slot s t m n p took is = record {
   table = ap (λ (x : Seated). x.table) is;
   limits = ap (λ (x : Seated). x.known.limits) is;
-  number = ap (λ (x : Member). x.number) (taken_out_left m n slot p took);
+  number = ap (λ (x : Member). x.number) (taken_out_left m n slot took);
 }
-
-pub unsent_same : (slot : ℕ) (s : Seated) (m n : Member) (cause : Refusal) → TakesOut m slot (Err cause) n →
-    IsSameWorker (worker_at s m) (worker_at s n)
-unsent_same slot s m n cause (NothingToTake none answer same) = record {
-  table = refl;
-  limits = refl;
-  number = ap (λ (x : Member). x.number) same;
-}
-unsent_same slot s m n cause (WasTakenOut segs there answer is) = absurd cc
 
 -- ---- and a receive
 
@@ -156,20 +146,11 @@ pub parcel_is : (parcel : Parcelled) (p : List Seg) (u : Seated) → p ≡ parce
     ◌≡◌ {A = Parcelled} (record { packet = p; seat = u }) parcel
 parcel_is parcel p u packet seat = rw (packet, seat) refl
 
--- what comes with a refusal
-abbrev cause_in : Result ℕ (Refusal × List Seg) → Refusal
-cause_in (Ok slot) = PacketsFull
-cause_in (Err e) = e.0
-
-abbrev back_in : Result ℕ (Refusal × List Seg) → List Seg
-back_in (Ok slot) = []
-back_in (Err e) = e.1
-
--- where no slot was free, the packet came back, and nothing has changed
-pub unbrought : (m n : Member) (p back : List Seg) (cause : Refusal) → BringsIn m p (Err (cause, back)) n →
-    (back ≡ p) × (n ≡ m)
-unbrought m n p back cause (NoSlotFor none answer same) = (ap back_in answer, same)
-unbrought m n p back cause (WasBroughtIn slot free answer is) = absurd cc
+-- where no slot was free, nothing has changed
+pub unbrought : (m n : Member) (p : List Seg) (cause : Refusal) → BringsIn m p (Err cause) n →
+    (free_slot m.table ≡ None) × (cause ≡ PacketsFull) × (n ≡ m)
+unbrought m n p cause (NoSlotFor none answer same) = (none, cc, same)
+unbrought m n p cause (WasBroughtIn slot free answer is) = absurd cc
 
 -- the packet came from the parcel into its slot
 pub received : (parcel : Parcelled) (slot : ℕ) (s t : Seated) (m n : Member) → BringsIn m parcel.packet (Ok slot) n →
@@ -189,11 +170,8 @@ received_same parcel slot s t m n brought both = record {
 }
 
 -- no slot was free
-pub unreceived : (parcel : Parcelled) (s : Seated) (m n : Member) (cause : Refusal) (back : List Seg) →
-    BringsIn m parcel.packet (Err (cause, back)) n →
-    Receives parcel (worker_at s m) (Err (cause, record { packet = back; seat = parcel.seat })) (worker_at s n)
-unreceived parcel s m n cause back (NoSlotFor none answer same) =
-    let first : cause ≡ PacketsFull = ap cause_in answer in
-    let second : back ≡ parcel.packet = ap back_in answer in
-    NoSlotFree none (rw (first, second) refl) (ap (λ (x : Member). worker_at s x) same)
-unreceived parcel s m n cause back (WasBroughtIn slot free answer is) = absurd cc
+pub unreceived : (parcel : Parcelled) (s : Seated) (m n : Member) (cause : Refusal) → BringsIn m parcel.packet (Err cause) n →
+    Receives parcel (worker_at s m) (Err (cause, parcel)) (worker_at s n)
+unreceived parcel s m n cause brought =
+    let no = unbrought m n parcel.packet cause brought in
+    NoSlotFree no.0 (rw no.1 refl) (ap (λ (x : Member). worker_at s x) no.2)

@@ -58,6 +58,16 @@ pub data Sends (slot : ℕ) (old : WorkerState) (answer : Result Parcelled Unsen
       } →
       Sends slot old answer new
 
+-- the packet that stood in a slot
+abbrev pub stood : Option (List Seg) → List Seg
+stood None = []
+stood (Some packet) = packet
+
+-- a send's answer of the seat alone: the parcel has the packet that stood in the slot
+abbrev pub with_stood : Option (List Seg) → Result Seated Unsent → Result Parcelled Unsent
+with_stood place (Ok seat) = Ok (record { packet = stood place; seat = seat })
+with_stood place (Err cause) = Err cause
+
 -- what it does to receive a parcel
 pub data Receives (parcel : Parcelled) (old : WorkerState) (answer : Result ℕ (Refusal × Parcelled))
     (new : WorkerState) : Type 0 where
@@ -79,3 +89,8 @@ pub data Receives (parcel : Parcelled) (old : WorkerState) (answer : Result ℕ 
         member = record old.member { table = slice_set old.member.table slot (Some parcel.packet) };
       } →
       Receives parcel old answer new
+
+-- a receive's answer of the seat alone, where it comes back: the parcel has the packet that it had
+abbrev pub with_packet : List Seg → Result ℕ (Refusal × Seated) → Result ℕ (Refusal × Parcelled)
+with_packet packet (Ok slot) = Ok slot
+with_packet packet (Err e) = Err (e.0, record { packet = packet; seat = e.1 })

@@ -37,8 +37,8 @@ impl Parcel {
     ghost use Rattle.std.specs.Prelude.{◌≡◌};
     ghost use Rattle.word_pool.specs.Parcels.{IsParcel};
 
-    /// The parcel of a packet, with the seat that has what it holds: for who carries both apart.
-    pub fn new(packet: Packet, seat: GroundSeat) -> Parcel
+    /// The parcel of a packet, with the seat that has what it holds.
+    pub(crate) fn new(packet: Packet, seat: GroundSeat) -> Parcel
         requires { IsParcel (record { packet = packet; seat = seat }) }
         ensures { result ≡ record { packet = packet; seat = seat } }
     {
@@ -46,7 +46,7 @@ impl Parcel {
     }
 
     /// The packet, and its seat, from which `new` makes the parcel again.
-    pub fn into_parts(self) -> (Packet, GroundSeat)
+    pub(crate) fn into_parts(self) -> (Packet, GroundSeat)
         ensures parts { (result.0 ≡ self.packet) × (result.1 ≡ self.seat) }
         ensures kept { IsParcel self }
     {

@@ -5,24 +5,25 @@ ghost use Rattle.std.specs.Option.{MatchOption};
 ghost use Rattle.ground.specs.Own.{AtRest};
 ghost use Rattle.ground.specs.Seats.{IsOf};
 ghost use Rattle.commons.specs.Calls.{with_list};
+ghost use Rattle.commons.specs.Packets.{IsPacket};
 ghost use Rattle.mbuf.specs.Acts.{HasRoom, allocated, allocated_bulk, as_reply, cloned, freed};
 ghost use Rattle.mbuf.specs.Own.{Own};
 ghost use Rattle.stack_lf.specs.Remaining.{ReadsRemaining};
 ghost use Rattle.stack_lf.specs.Sides.{side_of};
-ghost use Rattle.word_pool.specs.Parcels.{Receives, Sends};
+ghost use Rattle.word_pool.specs.Parcels.{IsParcel, Receives, Sends, stood, with_packet, with_stood};
 ghost use Rattle.word_pool.specs.Workers.{Acts, IsIdle, IsSameWorker, Stays};
 ghost use Rattle.word_pool.specs.inside.Kept.{worker_at};
 
 use crate::calls;
 use crate::parcel::{Parcel, Unsent};
-use commons::packet::Packet;
+use commons::packet::{Packet, Seg};
 use commons::refusal::Refusal;
 use ground::pool::Ground;
 use ground::seat::GroundSeat;
 use mbuf::acts;
 use mbuf::acts::{Act, Answer, Reply};
 use mbuf::freed::Freed;
-use mbuf::packets::{Packets, Pid};
+use mbuf::packets::{Packets, Pid, rewrite};
 use stack_lf::lent::LentWords;
 use std::marker::Model;
 
@@ -203,17 +204,47 @@ impl WordWorker {
         ensures of { IfOk result (λ parcel. IsOf ground.now parcel.seat) }
         ensures same { IsSameWorker self.old self.new }
     {
+        let Some(place) = self.packets.place(slot) else {
+            return Err(Unsent::NoSuchPacket);
+        };
+        let packet = copied(place);
+        match self.send_seat(ground, slot) {
+            Ok(seat) => Ok(Parcel::new(packet, seat)),
+            Err(cause) => Err(cause),
+        }
+    }
+
+    /// Does what `send` does, and answers the parcel's seat alone: for who has written the packet's
+    /// segments already, as `place` shows them, and brings both to `receive_seat`.
+    ///
+    /// Refused as `send` is.
+    #[inline(always)]
+    pub fn send_seat(&mut self, ground: &Ground, slot: Pid) -> Result<GroundSeat, Unsent>
+        requires of { IsOf ground.now self.old.seat }
+        ensures sent { Sends slot self.old
+            (with_stood (slice_index_or self.old.member.table slot None) result) self.new }
+        ensures parcel { IfOk result (λ seat. IsParcel (record {
+          packet = stood (slice_index_or self.old.member.table slot None);
+          seat = seat;
+        })) }
+        ensures of { IfOk result (λ seat. IsOf ground.now seat) }
+        ensures same { IsSameWorker self.old self.new }
+    {
         if self.part < 2 {
             return Err(Unsent::NoPart);
         }
+        let Some(packet) = self.packets.place(slot) else {
+            return Err(Unsent::NoSuchPacket);
+        };
+        self.seat.owned();
+        let seat = ground.lend_packet(&mut self.seat, packet);
         match self.packets.take_out(slot) {
-            Ok(packet) => {
-                self.seat.owned();
-                let seat = ground.lend_packet(&mut self.seat, &packet);
+            Ok(()) => {
                 self.part -= 1;
-                Ok(Parcel::new(packet, seat))
+                Ok(seat)
             }
-            Err(_) => Err(Unsent::NoSuchPacket),
+            // A packet stands there.
+            Err(_) => unreachable!(),
         }
     }
 
@@ -230,16 +261,49 @@ impl WordWorker {
         ensures same { IsSameWorker self.old self.new }
     {
         let (packet, seat) = parcel.into_parts();
-        match self.packets.bring_in(packet) {
+        match self.receive_seat(ground, packet.segs(), seat) {
+            Ok(slot) => Ok(slot),
+            Err((cause, seat)) => Err((cause, Parcel::new(packet, seat))),
+        }
+    }
+
+    /// Receives the parcel of these segments and this seat, as `receive` does.
+    ///
+    /// Refused `PacketsFull` where no slot is free. The seat comes back then, and nothing changes.
+    #[inline(always)]
+    pub fn receive_seat(
+        &mut self,
+        ground: &Ground,
+        segs: &[Seg],
+        seat: GroundSeat,
+    ) -> Result<Pid, (Refusal, GroundSeat)>
+        requires of { IsOf ground.now self.old.seat }
+        requires packet { IsPacket segs.now }
+        requires parcel { IsParcel (record { packet = segs.now; seat = seat }) }
+        requires same_ground { IsOf ground.now seat }
+        ensures received { Receives (record { packet = segs.now; seat = seat }) self.old
+            (with_packet segs.now result) self.new }
+        ensures same { IsSameWorker self.old self.new }
+    {
+        match self.packets.bring_in(segs) {
             Ok(slot) => {
                 ground.join(&mut self.seat, seat);
                 self.seat.owned();
                 self.part += 1;
                 Ok(slot)
             }
-            Err((cause, packet)) => Err((cause, Parcel::new(packet, seat))),
+            Err(cause) => Err((cause, seat)),
         }
     }
+}
+
+/// A packet with the same segments.
+fn copied(packet: &Packet) -> Packet
+    ensures { result ≡ packet.now }
+{
+    let mut copy = Packet::single(Seg::default());
+    rewrite(&mut copy, packet.segs());
+    copy
 }
 
 /// Lets the worker of this seat and these packets do this.

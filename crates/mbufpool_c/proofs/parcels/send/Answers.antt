@@ -1,8 +1,9 @@
-use Rattle.std.proofs.Common.{◌≡◌, List, ap, arith, length, refl, subst, ◌∙◌}
+use Rattle.std.proofs.Common.{List, Option, Ok, ap, arith, length, refl, subst, ◌∙◌}
 use Rattle.commons.specs.declared.packet.Seg.{Seg}
+use Rattle.word_pool.specs.Parcels.{IsParcel, Parcelled, stood, with_stood}
 use Rattle.mbufpool_c.specs.Labels.{slot_in}
-use Rattle.mbufpool_c.specs.Parcels.{IsSent, NoPartLeft, TooFewPlaces, Writes}
-use Rattle.mbufpool_c.proofs.ParcelLemmas.{sent_packet, under_way}
+use Rattle.mbufpool_c.specs.Parcels.{IsSent, NoPartLeft, SendsBy, TooFewPlaces, Writes}
+use Rattle.mbufpool_c.proofs.ParcelLemmas.{under_way}
 use Rattle.mbufpool_c.proofs.parcels.send.Goals as goal
 
 -- the packet has more segments than there are places
@@ -17,18 +18,21 @@ pub returns-in-Ok : goal.returns-in-Ok
 returns-in-Ok c =
     let m = c.args.own.now in
     let n = c.send.new.self in
-    let slot = slot_in m.labels c.args.number in
+    let number = c.args.number in
     let packet = c.in-Some.packet.now in
-    let sends = c.in-Ok.ensures in
-    let stood = sent_packet slot m.worker n.worker c.in-Ok.sent sends.sends in
-    let packets : packet ≡ c.in-Ok.sent.packet = (let there = c.in-Some.ensures in cc) in
-    IsSent c.in-Ok.sent (let none = c.if-out-ne0.false in omega (arith, none)) sends refl
-    (under_way slot m.worker n.worker c.in-Ok.sent c.into_parts-seat.result.1 packet c.fill.new.self sends.sends
-    c.into_parts-seat.ensures.parts.1 c.into_parts-seat.ensures.kept c.owned.ensures c.knows_desks.ensures
-    c.segs-segs.ensures.packet c.in-Some.ensures
+    let seat = c.in-Ok.seat in
+    let p : Parcelled = record { packet = packet; seat = seat } in
+    let sends : SendsBy number m (Ok p) n =
+    subst (λ (place : Option (List Seg)). SendsBy number m (with_stood place (Ok seat)) n) c.in-Some.ensures
+    c.in-Ok.ensures.sends in
+    let parcel : IsParcel p =
+    subst (λ (place : Option (List Seg)). IsParcel (record { packet = stood place; seat = seat })) c.in-Some.ensures
+    c.in-Ok.ensures.parcel in
+    IsSent p (let none = c.if-out-ne0.false in omega (arith, none)) sends refl
+    (under_way (slot_in m.labels number) m.worker n.worker p seat packet c.fill.new.self sends.sends refl parcel
+    c.owned.ensures c.knows_desks.ensures c.segs-segs.ensures.packet c.in-Some.ensures
     (c.fill.ensures.segments ∙ ap length c.segs-segs.ensures.segs) c.fill.ensures.table c.fill.ensures.seat)
-    (subst (λ (segs : List Seg). Writes segs c.args.places.now c.write.new.out) (c.segs-segs.ensures.segs ∙ packets)
-    c.write.ensures)
+    (subst (λ (segs : List Seg). Writes segs c.args.places.now c.write.new.out) c.segs-segs.ensures.segs c.write.ensures)
 
 -- there is room, and no part for the parcel
 pub returns-then-part-lt2 : goal.returns-then-part-lt2

@@ -1,4 +1,5 @@
-use Rattle.std.proofs.Common.{◌≡◌, None, set, refl, sym, ◌∙◌}
+use Rattle.std.proofs.Common.{◌≡◌, List, None, set, refl, sym, ap, ◌∙◌}
+use Rattle.commons.specs.declared.packet.Seg.{Seg}
 use Rattle.mbuf.specs.PacketRules.{free_slot}
 use Rattle.mbuf.specs.Parcels.{NoSlotFor, WasBroughtIn}
 use Rattle.mbuf.specs.inside.Kept.{member_of}
@@ -6,7 +7,7 @@ use Rattle.mbuf.proofs.PlaceLemmas.{alike, filled, lowest}
 use Rattle.mbuf.proofs.TableLemmas.{free_slot-shown}
 use Rattle.mbuf.proofs.packets.Packets.bring_in.Goals as goal
 
--- No flag is up, so no slot is free, and the packet comes back.
+-- No flag is up, so no slot is free.
 pub returns-in_default : goal.returns-in_default
 returns-in_default c =
     let p = c.self.inside in
@@ -23,9 +24,10 @@ pub returns : goal.returns
 returns c =
     let p = c.self.inside in
     let slot = c.in-Some.place in
-    let segs = c.args.packet in
+    let segs = c.args.segs.now in
     let low = lowest p slot c.self.invariant c.in-Some.ensures in
     let is =
-    filled p p.worker c.take.new.self (set p.packets.items slot segs) slot segs c.self.invariant low
-    (record { limits = refl; number = refl }) c.take.ensures refl in
+    filled p p.worker c.take.new.self (set p.packets.items slot c.rewrite.new.packet) slot segs c.self.invariant low
+    (record { limits = refl; number = refl }) c.take.ensures
+    (ap (λ (x : List Seg). set p.packets.items slot x) c.rewrite.ensures) in
     rw (sym c.self.view_is) (WasBroughtIn slot low.free refl is)
