@@ -1,6 +1,7 @@
 pub mod Leaving
 pub mod Lost
 pub mod LostViews
+pub mod Mails
 pub mod Parcels
 pub mod Shares
 pub mod TwinShares

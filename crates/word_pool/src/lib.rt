@@ -5,6 +5,7 @@
 mod calls;
 mod closing;
 pub mod laws;
+pub mod mail;
 pub mod parcel;
 pub mod pool;
 pub mod twin_pool;

@@ -1,15 +1,10 @@
-use Rattle.std.specs.Prelude.{All, vec_len}
 use Rattle.ground.specs.Seats.{IsOf}
 use Rattle.word_pool.specs.Workers.{IsSameWorker}
 use Rattle.word_tests.proofs.tests.parcels.free.Given as goal
 
--- the parcels that are left are of the ground, and the worker is the same
+-- the worker is the same
 abbrev pub invariant-loop-mail : goal.invariant-loop-mail
-invariant-loop-mail l = record {
+invariant-loop-mail g l = record {
   of : IsOf l.ground l.worker.seat;
   same : IsSameWorker l.fn.worker l.worker;
-  list : All (λ m. IsOf l.ground m.parcel.seat) l.list.items;
 }
-
-abbrev pub decreases-loop-mail : goal.decreases-loop-mail
-decreases-loop-mail l = vec_len l.list

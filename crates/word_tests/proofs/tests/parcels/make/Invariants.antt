@@ -1,12 +1,10 @@
-use Rattle.std.specs.Prelude.{All}
 use Rattle.ground.specs.Seats.{IsOf}
 use Rattle.word_pool.specs.Workers.{IsSameWorker}
 use Rattle.word_tests.proofs.tests.parcels.make.Given as goal
 
--- the parcels are of the ground, and the worker is the same
+-- the worker is the same
 abbrev pub invariant-loop : goal.invariant-loop
-invariant-loop l = record {
+invariant-loop g l = record {
   of : IsOf l.ground l.worker.seat;
   same : IsSameWorker l.fn.worker l.worker;
-  list : All (λ m. IsOf l.ground m.parcel.seat) l.list.items;
 }
