@@ -168,7 +168,7 @@ struct subject {
 
 extern const struct subject mempool_subject; /* on a handler, whose name is to be filled in */
 extern const struct subject lf_stack_subject, stack_subject, ring_mp_mc_subject;
-extern const struct subject ring_sp_sc_subject, ring_copy_subject;
+extern const struct subject ring_sp_sc_subject, ring_read_subject, ring_copy_subject;
 extern const struct subject plain_subject, none_subject;
 extern const struct subject pool_subject, worker_subject, parcel_subject, parcel_copy_subject;
 extern const struct subject twice_subject, loses_subject;

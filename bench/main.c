@@ -56,7 +56,8 @@ static const struct subject *const known[] = {
 #ifdef WITH_LIBRARY
 	&pool_subject, &worker_subject, &parcel_subject, &parcel_copy_subject,
 #endif
-	&ring_sp_sc_subject, &ring_copy_subject, &none_subject, &twice_subject, &loses_subject,
+	&ring_sp_sc_subject, &ring_read_subject, &ring_copy_subject, &none_subject, &twice_subject,
+	&loses_subject,
 };
 #define FAULTY 2
 

@@ -1,5 +1,6 @@
-/* rings.c - a packet handed over by rte_ring: a pointer to it, or its 648 bytes copied in and
- * out, as many as a packet of mbufpool.h has. A place has a ring of one element. */
+/* rings.c - a packet handed over by rte_ring: a pointer to it, alone or with its first cache line
+ * written before and read behind, or its 648 bytes copied in and out, as many as a packet of mbufpool.h
+ * has. A place has a ring of one element. */
 #include <stdlib.h>
 #include <string.h>
 
@@ -11,12 +12,14 @@
 
 struct packet {
 	uint32_t serial;
-	uint8_t rest[PACKET - sizeof(uint32_t)];
+	uint32_t length; /* what is written and read where its line is to pass as well */
+	uint8_t rest[PACKET - 2 * sizeof(uint32_t)];
 };
 
 struct hand {
 	struct rte_ring *place[2];
 	struct packet *packet, own;
+	uint32_t length;
 } __rte_cache_aligned;
 
 struct ring_pool {
@@ -38,6 +41,26 @@ take_pointer(void *user, unsigned int place)
 	struct hand *h = user;
 
 	return rte_ring_dequeue(h->place[place], (void **)&h->packet) == 0;
+}
+
+static __rte_always_inline bool
+offer_written(void *user, unsigned int place)
+{
+	struct hand *h = user;
+
+	h->packet->length = h->length + 1;
+	return offer_pointer(user, place);
+}
+
+static __rte_always_inline bool
+take_read(void *user, unsigned int place)
+{
+	struct hand *h = user;
+
+	if (!take_pointer(user, place))
+		return false;
+	h->length = h->packet->length;
+	return true;
 }
 
 static __rte_always_inline bool
@@ -101,6 +124,16 @@ static const struct calls pointers = {
 };
 HAND_PLAYS(pointers)
 
+static const struct calls lines = {
+	.offer = offer_written,
+	.take = take_read,
+	.write = write_serial,
+	.read = read_serial,
+	.missing = missing,
+	.close = end,
+};
+HAND_PLAYS(lines)
+
 static const struct calls copies = {
 	.offer = offer_copy,
 	.take = take_copy,
@@ -124,6 +157,7 @@ open_handed_ring(const struct subject *subject, const struct cell *cell, struct 
 {
 	const bool is_copied = strcmp(subject->name, "ring_copy") == 0;
 	const bool is_single = strcmp(subject->name, "ring_sp_sc") == 0;
+	const bool is_read = strcmp(subject->name, "ring_read") == 0;
 	struct ring_pool *p = aligned_alloc(RTE_CACHE_LINE_SIZE, sizeof(*p));
 	unsigned int i;
 
@@ -141,9 +175,11 @@ open_handed_ring(const struct subject *subject, const struct cell *cell, struct 
 		p->hand[i].packet = is_copied ? &p->hand[i].own : &p->packet;
 		pool->user[i] = &p->hand[i];
 	}
-	pool->calls = is_copied ? &copies : &pointers;
+	pool->calls = is_copied ? &copies : is_read ? &lines : &pointers;
 	if (is_copied)
 		copies_hand(cell->threads, pool);
+	else if (is_read)
+		lines_hand(cell->threads, pool);
 	else
 		pointers_hand(cell->threads, pool);
 	return true;
@@ -151,6 +187,12 @@ open_handed_ring(const struct subject *subject, const struct cell *cell, struct 
 
 const struct subject ring_sp_sc_subject = {
 	.name = "ring_sp_sc",
+	.most_threads = 2,
+	.open = { [HANDED] = open_handed_ring },
+};
+
+const struct subject ring_read_subject = {
+	.name = "ring_read",
 	.most_threads = 2,
 	.open = { [HANDED] = open_handed_ring },
 };

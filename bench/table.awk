@@ -252,6 +252,7 @@ function handovers() {
     print "|---|---|---|"
     handovers_row("`rte_ring`, one producer and consumer", "ring_sp_sc")
     handovers_row("`rte_ring`, many producers and consumers", "ring_mp_mc")
+    handovers_row("`rte_ring`, the same, and a line of the packet written and read", "ring_read")
     handovers_row("`rte_ring`, the same, 648 bytes copied in and out", "ring_copy")
     handovers_row("a desk in plain C", "plain")
     handovers_row("a desk from C, `mbufpool_worker_offer` and `_take`", "worker")
