@@ -19,6 +19,7 @@
 #define MOST_THREADS 16
 #define MOST_REFS 240	/* elements that a round holds at once */
 #define BUFFER 2048	/* bytes of a packet's buffer behind its headroom of 128 */
+#define DATA_ROOM (RTE_PKTMBUF_HEADROOM + BUFFER)
 #define NAME_SIZE 32
 
 /* ---- workloads ---- */
@@ -170,7 +171,7 @@ extern const struct subject mempool_subject; /* on a handler, whose name is to b
 extern const struct subject lf_stack_subject, stack_subject, ring_mp_mc_subject;
 extern const struct subject ring_sp_sc_subject, ring_read_subject, ring_copy_subject;
 extern const struct subject plain_subject, none_subject;
-extern const struct subject pool_subject, worker_subject, parcel_subject, parcel_copy_subject;
+extern const struct subject pool_subject, worker_subject, parcel_subject, parcel_packed_subject;
 extern const struct subject twice_subject, loses_subject;
 
 /* bare.c, rings.c: the forms of DPDK's own subjects that aren't a mempool */

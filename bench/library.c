@@ -167,7 +167,7 @@ struct worker_user {
 	unsigned int desk;     /* over which the next packet is sent or received */
 	struct under_way *parcels; /* one for each element */
 	struct under_way *parcel;  /* of the packet that is handed over, and its places */
-	struct under_way own;      /* a parcel that is copied in and out of them */
+	struct under_way own;      /* a parcel that is packed as it is sent */
 	struct rte_ring *place[2];
 } __rte_cache_aligned;
 
@@ -472,48 +472,92 @@ static const struct calls parcels = {
 SEND_PLAYS(parcels)
 HAND_PLAYS(parcels)
 
-/* The parcel itself goes over the ring: what is left of it here is no parcel any more. */
-static __rte_always_inline bool
-offer_parcel_copy(void *user, unsigned int place)
+/* A packet of one direct segment goes over the ring as a pointer that is its parcel. */
+static __rte_always_inline void *
+send_packed(struct worker_user *u, uint32_t slot)
 {
-	struct worker_user *u = user;
+	if (mbufpool_worker_send(&u->worker, slot, &u->own.parcel, 1) != 0)
+		return NULL;
+	return mbufpool_parcel_pack(&u->own.parcel, DATA_ROOM);
+}
 
-	if (mbufpool_worker_send(&u->worker, u->slot, &u->own.parcel, 1) != 0 ||
-		rte_ring_enqueue_elem(u->place[place], &u->own, sizeof(u->own)) != 0)
+static __rte_always_inline bool
+receive_packed(struct worker_user *u, void *packed, uint32_t *slot)
+{
+	struct under_way room;
+	struct mbufpool_parcel *parcel = mbufpool_parcel_unpack(packed, DATA_ROOM, &room.parcel);
+
+	return mbufpool_worker_receive(&u->worker, parcel, slot) == 0;
+}
+
+static __rte_always_inline void
+send_all_packed(void *user, union refs *refs, unsigned int n)
+{
+	unsigned int i;
+
+	for (i = 0; i < n; i++)
+		refs->object[i] = send_packed(user, refs->packet[i].slot);
+	send_pointers(refs, n);
+}
+
+static __rte_always_inline bool
+receive_all_packed(void *user, union refs *refs, unsigned int n)
+{
+	unsigned int i;
+
+	if (!receive_pointers(refs, n))
 		return false;
-	u->own.parcel.segments = 0;
+	for (i = 0; i < n; i++)
+		receive_packed(user, refs->object[i], &refs->packet[i].slot);
 	return true;
 }
 
 static __rte_always_inline bool
-take_parcel_copy(void *user, unsigned int place)
+offer_packed(void *user, unsigned int place)
 {
 	struct worker_user *u = user;
+	void *packed = send_packed(u, u->slot);
 
-	return rte_ring_dequeue_elem(u->place[place], &u->own, sizeof(u->own)) == 0 &&
-		mbufpool_worker_receive(&u->worker, &u->own.parcel, &u->slot) == 0;
+	return packed != NULL && rte_ring_enqueue(u->place[place], packed) == 0;
 }
 
-static const struct calls parcel_copies = {
-	.offer = offer_parcel_copy,
-	.take = take_parcel_copy,
+static __rte_always_inline bool
+take_packed(void *user, unsigned int place)
+{
+	struct worker_user *u = user;
+	void *packed;
+
+	return rte_ring_dequeue(u->place[place], &packed) == 0 && receive_packed(u, packed, &u->slot);
+}
+
+static const struct calls packed_parcels = {
+	.ref_size = sizeof(void *),
+	.alloc = alloc,
+	.alloc_bulk = alloc_bulk,
+	.free = free_packet,
+	.send = send_all_packed,
+	.receive = receive_all_packed,
+	.offer = offer_packed,
+	.take = take_packed,
 	.ready = make_first,
 	.rest = rest,
+	.mark = mark_packet,
 	.write = write_serial,
 	.read = read_serial,
 	.missing = missing_from_workers,
 	.close = end_workers,
 };
-HAND_PLAYS(parcel_copies)
+SEND_PLAYS(packed_parcels)
+HAND_PLAYS(packed_parcels)
 
 static bool
-make_parcels(struct worker_pool *p, const struct cell *cell, size_t place)
+make_parcels(struct worker_pool *p, const struct cell *cell)
 {
 	struct worker_user *first = &p->user[0];
 	unsigned int i;
 
 	first->parcels = calloc(cell->population, sizeof(first->parcels[0]));
-	if (first->parcels == NULL || !make_places(first->place, place, 0))
+	if (first->parcels == NULL || !make_places(first->place, sizeof(void *), 0))
 		return false;
 	for (i = 1; i < cell->threads; i++) {
 		p->user[i].parcels = first->parcels;
@@ -532,7 +576,7 @@ make_workers(struct worker_pool *p, const struct cell *cell)
 		.cache = cell->cache,
 		.workers = cell->threads,
 		.desks = DESKS,
-		.buf = RTE_PKTMBUF_HEADROOM + BUFFER,
+		.buf = DATA_ROOM,
 		.ref_limit = REF_LIMIT,
 		.tries = TRIES,
 	};
@@ -566,8 +610,8 @@ choose(const struct cell *cell, struct pool *pool, const struct calls *calls,
 static bool
 open_workers(const struct subject *subject, const struct cell *cell, struct pool *pool)
 {
-	const bool is_copied = strcmp(subject->name, "parcel_copy") == 0;
-	const bool has_parcels = is_copied || strcmp(subject->name, "parcel") == 0;
+	const bool is_packed = strcmp(subject->name, "parcel_packed") == 0;
+	const bool has_parcels = is_packed || strcmp(subject->name, "parcel") == 0;
 	const enum form form = workloads[cell->workload].form;
 	struct worker_pool *p = aligned_alloc(RTE_CACHE_LINE_SIZE, sizeof(*p));
 	unsigned int i;
@@ -576,8 +620,7 @@ open_workers(const struct subject *subject, const struct cell *cell, struct pool
 		return false;
 	memset(p, 0, sizeof(*p));
 	pool->at = p;
-	if (!make_workers(p, cell) || (has_parcels &&
-		!make_parcels(p, cell, is_copied ? sizeof(struct under_way) : sizeof(void *)))) {
+	if (!make_workers(p, cell) || (has_parcels && !make_parcels(p, cell))) {
 		end_workers(pool);
 		return false;
 	}
@@ -586,8 +629,8 @@ open_workers(const struct subject *subject, const struct cell *cell, struct pool
 			form == CLONES ? size_of(cell->workload) : form == HANDED && i == 0;
 		pool->user[i] = &p->user[i];
 	}
-	if (is_copied)
-		choose(cell, pool, &parcel_copies, parcel_copies_hand, NULL);
+	if (is_packed)
+		choose(cell, pool, &packed_parcels, packed_parcels_hand, packed_parcels_send);
 	else if (has_parcels)
 		choose(cell, pool, &parcels, parcels_hand, parcels_send);
 	else if (form == HANDED || form == SENT)
@@ -610,8 +653,7 @@ const struct subject parcel_subject = {
 	.open = { [SENT] = open_workers, [HANDED] = open_workers },
 };
 
-const struct subject parcel_copy_subject = {
-	.name = "parcel_copy",
-	.most_threads = 2,
-	.open = { [HANDED] = open_workers },
+const struct subject parcel_packed_subject = {
+	.name = "parcel_packed",
+	.open = { [SENT] = open_workers, [HANDED] = open_workers },
 };

@@ -54,7 +54,7 @@ const struct workload_facts workloads[WORKLOADS] = {
 static const struct subject *const known[] = {
 	&ring_mp_mc_subject, &lf_stack_subject, &stack_subject, &plain_subject,
 #ifdef WITH_LIBRARY
-	&pool_subject, &worker_subject, &parcel_subject, &parcel_copy_subject,
+	&pool_subject, &worker_subject, &parcel_subject, &parcel_packed_subject,
 #endif
 	&ring_sp_sc_subject, &ring_read_subject, &ring_copy_subject, &none_subject, &twice_subject,
 	&loses_subject,

@@ -238,7 +238,7 @@ static struct rte_mempool *
 make_mbufs(const char *name, const char *ops, uint32_t population, uint32_t cache, bool has_marks)
 {
 	struct rte_mempool *mp = rte_pktmbuf_pool_create_by_ops(name, population, cache,
-		has_marks ? MARK : 0, RTE_PKTMBUF_HEADROOM + BUFFER, SOCKET_ID_ANY, ops);
+		has_marks ? MARK : 0, DATA_ROOM, SOCKET_ID_ANY, ops);
 
 	if (mp != NULL && has_marks)
 		rte_mempool_obj_iter(mp, clear_mark, NULL);

@@ -68,7 +68,7 @@ function ratio(key, to,    p, n) {
 # ---- who there is ----
 
 function needs(who) {
-    if (who == "pool" || who == "worker" || who == "parcel" || who ~ /^mbufpool/)
+    if (who == "pool" || who == "worker" || who ~ /^(mbufpool|parcel)/)
         return is_there["pool"] || is_there["worker"]
     if (who ~ /^rattle/)
         return is_there["rattle"]
@@ -237,7 +237,8 @@ function sent(    c, cache, i, n, who) {
         for (i = 1; i <= n; i++)
             sent_row("mbufs on `" who[i] "`", cache, who[i])
         sent_row("a worker's packets, over 64 desks", cache, "worker")
-        sent_row("a worker's packets, as parcels", cache, "parcel")
+        sent_row("a worker's packets, as addresses of parcels", cache, "parcel")
+        sent_row("a worker's packets, as parcels that are pointers", cache, "parcel_packed")
     }
 }
 
@@ -256,8 +257,8 @@ function handovers() {
     handovers_row("`rte_ring`, the same, 648 bytes copied in and out", "ring_copy")
     handovers_row("a desk in plain C", "plain")
     handovers_row("a desk from C, `mbufpool_worker_offer` and `_take`", "worker")
-    handovers_row("a parcel, whose address goes over such an `rte_ring`", "parcel")
-    handovers_row("a parcel of 20 bytes, over an `rte_ring` of such elements", "parcel_copy")
+    handovers_row("a parcel's address, over such an `rte_ring`", "parcel")
+    handovers_row("a parcel that is a pointer, over such an `rte_ring`", "parcel_packed")
 }
 
 END {

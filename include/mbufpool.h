@@ -670,9 +670,9 @@ void mbufpool_guard_end(struct mbufpool_guard *worker);
  * mbufpool_worker_receive are the same with the packet's bytes in the caller's memory, and the pointer
  * to these on the ring. An array of parcels, one for each element, needs no memory later: a packet is
  * sent in that of its first element, which no other packet has for its own while it stands or is under
- * way. Or the parcel itself goes over a ring of elements of its size (rte_ring_create_elem), which is
- * faster for one segment: what is left of it where it was written gets zeros in `segments`. Desks are the
- * library's own, and need no ring. */
+ * way. mbufpool_parcel_pack makes one pointer of a parcel, and where the packet is one direct segment that
+ * pointer is the whole parcel: no memory passes with it, which is faster. Desks are the library's own, and
+ * need no ring. */
 
 /** A worker, or none where the pointer is null. The pointer is the library's. */
 struct mbufpool_worker { void *at; };
@@ -1079,6 +1079,62 @@ static inline uint32_t mbufpool_worker_receive(struct mbufpool_worker *worker,
 #endif
 	return mbufpool_worker_receive_segments(worker, parcel,
 		(const struct mbufpool_parcel_segment *)(parcel + 1), parcel->segments, slot);
+}
+
+/**
+ * Makes one pointer of a parcel, for a queue of pointers as an rte_ring is.
+ *
+ * Where the packet is one direct segment, the pointer has all that the parcel says: it is odd and leads
+ * nowhere, and the parcel is empty then, as one that was received. Else, as for a clone or a chain, the
+ * pointer is the parcel's address. No library is called.
+ *
+ * @param parcel
+ *   The parcel, with its segments behind it.
+ * @param buf
+ *   The bytes in an element's buffer, as struct mbufpool_limits has them.
+ * @return
+ *   The pointer, of which mbufpool_parcel_unpack makes the parcel again: once, as a parcel is received.
+ */
+static inline void *mbufpool_parcel_pack(struct mbufpool_parcel *parcel, uint32_t buf)
+{
+	const struct mbufpool_parcel_segment *of = (const struct mbufpool_parcel_segment *)(parcel + 1);
+
+	if (sizeof(void *) < sizeof(uint64_t) || parcel->segments != 1 || of->indirect || of->buf != buf)
+		return parcel;
+	parcel->segments = 0;
+	/* Bit 0 is 1, and above it are the length, the offset, and the element of less than 2^24. */
+	return (void *)(uintptr_t)((uint64_t)of->element << 33 | (uint64_t)of->off << 17 |
+		(uint64_t)of->len << 1 | 1);
+}
+
+/**
+ * Makes the parcel again of a pointer from mbufpool_parcel_pack.
+ *
+ * @param packed
+ *   The pointer.
+ * @param buf
+ *   As mbufpool_parcel_pack had it.
+ * @param room
+ *   Gets the parcel where the pointer has it: of one segment, which is written behind it. Else it stays.
+ * @return
+ *   The parcel: `room`, or the one whose address the pointer is.
+ */
+static inline struct mbufpool_parcel *mbufpool_parcel_unpack(void *packed, uint32_t buf,
+	struct mbufpool_parcel *room)
+{
+	struct mbufpool_parcel_segment *of = (struct mbufpool_parcel_segment *)(room + 1);
+	const uint64_t word = (uintptr_t)packed;
+
+	if (!(word & 1))
+		return (struct mbufpool_parcel *)packed;
+	room->segments = 1;
+	of->element = (uint32_t)(word >> 33);
+	of->base = 0;
+	of->off = (uint16_t)(word >> 17);
+	of->len = (uint16_t)(word >> 1);
+	of->buf = (uint16_t)buf;
+	of->indirect = 0;
+	return room;
 }
 
 /**

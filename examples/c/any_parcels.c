@@ -1,8 +1,9 @@
 /* any_parcels.c - packets that are sent and received with any numbers: slots of packets that went, too
  * little room, parcels that weren't received yet or were before, handles without a worker, and NULL for a
  * handle. A packet has to come as it went, with its segments, lengths and bases, whichever thread receives
- * it. At the end of a pool all its elements are available, or the parcels that are left are given up, and
- * the close has to name what they hold and nothing else.
+ * it, also where its parcel was one pointer in between. At the end of a pool all its elements are
+ * available, or the parcels that are left are given up, and the close has to name what they hold and
+ * nothing else.
  *
  *     make any_parcels && ./any_parcels [CALLS [THREADS [SEED]]]
  *
@@ -318,6 +319,52 @@ static void copy_any(struct box *from, struct box *to)
 	from->letter.parcel.segments = 0;
 }
 
+/* Any parcel of one segment, that no pool has to have sent. */
+static void write_any(struct thread *t, struct letter *letter)
+{
+	struct mbufpool_parcel_segment *of = letter->segment;
+
+	letter->parcel.segments = 1;
+	of->element = below(t, 1 << 24);
+	of->indirect = below(t, 8) == 0;
+	of->base = of->indirect ? below(t, 1 << 24) : 0;
+	of->off = (uint16_t)below(t, 1 << 16);
+	of->len = (uint16_t)below(t, 1 << 16);
+	of->buf = (uint16_t)below(t, 1 << 16);
+}
+
+/* Makes a pointer of a parcel, and a parcel of that: the same bytes as before, in `letter` again. */
+static void pack_any(struct thread *t, struct letter *letter)
+{
+	const struct letter before = *letter;
+	const struct mbufpool_parcel_segment *of = before.segment;
+	const uint32_t buf = below(t, 8) ? of->buf : below(t, 1 << 16);
+	const int is_alone = before.parcel.segments == 1 && !of->indirect && of->buf == buf;
+	struct letter room = { { 0 }, { { 0, 0, 0, 0, 0, 0 } } };
+	void *packed = mbufpool_parcel_pack(&letter->parcel, buf);
+	struct mbufpool_parcel *parcel = mbufpool_parcel_unpack(packed, buf, &room.parcel);
+
+	MUST((packed == letter) == !is_alone && (parcel == &room.parcel) == is_alone);
+	if (is_alone) {
+		MUST(letter->parcel.segments == 0);
+		letter->parcel = room.parcel;
+		letter->segment[0] = room.segment[0];
+	} else
+		MUST(parcel == &letter->parcel);
+	MUST(memcmp(letter, &before, sizeof(before)) == 0);
+}
+
+/* The parcel of any box, and another that no pool knows. */
+static void pack_both(struct thread *t, struct letter *letter)
+{
+	struct letter other;
+
+	memset(&other, 0, sizeof(other));
+	write_any(t, &other);
+	pack_any(t, &other);
+	pack_any(t, letter);
+}
+
 /* Lays a box on the shelf, or none, and takes what lies there. */
 static void exchange(struct thread *t)
 {
@@ -374,12 +421,13 @@ static void call_parcels(struct thread *t)
 		return;
 	}
 	box = t->box[below(t, t->boxes)];
-	switch (below(t, 8)) {
+	switch (below(t, 9)) {
 	case 0: exchange(t); return;
 	case 1: copy_any(box, t->box[below(t, t->boxes)]); return;
 	case 2: call_no_worker(t, below(t, 2) ? &none : NULL, &box->letter); return;
-	case 3:
-	case 4: receive_any(t, box); return;
+	case 3: pack_both(t, &box->letter); return;
+	case 4:
+	case 5: receive_any(t, box); return;
 	default: send_any(t, box); return;
 	}
 }

@@ -1,7 +1,7 @@
 /* multicast.c - a pipeline over four threads, each with a worker of its own: a receiver makes packets, a
  * router takes their headers off and clones them, and two transmitters free what comes to them, the one the
- * packets, the other the clones. From thread to thread a packet passes as a parcel, whose address goes over
- * a ring, as an mbuf's does over an rte_ring. No byte of a packet's data is copied.
+ * packets, the other the clones. From thread to thread a packet passes as a parcel, of which one pointer goes
+ * over a ring, as an mbuf's does over an rte_ring. No byte of a packet's data is copied.
  *
  *     make multicast && ./multicast [PACKETS] */
 #include <pthread.h>
@@ -13,6 +13,7 @@
 
 #define POPULATION 1024
 #define CACHE 32
+#define BUFFER 2048
 #define WORKERS 4
 #define SLOTS 256 /* parcels that lie between two threads */
 #define HEADER 14
@@ -25,17 +26,17 @@ struct one_segment {
 	struct mbufpool_parcel_segment segment;
 };
 
-/* A packet is sent in the parcel of its first element: no other packet that stands or is under way has
- * that for its own, so the parcel is free. */
+/* A packet of one direct segment passes as the pointer alone. A clone passes in the parcel of its
+ * element: no other packet that stands or is under way has that for its own, so the parcel is free. */
 static struct one_segment parcels[POPULATION];
 
 /* The buffers are the caller's, one for each element; a first word is enough here. It is read and
  * written as an atomic for the thread sanitizer alone, which can't see what the library orders. */
 static uint32_t first_word[POPULATION];
 
-/* A ring between two threads: a parcel in each slot, which one thread fills and the other empties. */
+/* A ring of pointers between two threads, which one of them fills and the other empties. */
 struct ring {
-	struct mbufpool_parcel *parcel[SLOTS];
+	void *packed[SLOTS];
 	unsigned long sent, taken;
 };
 
@@ -69,26 +70,26 @@ static uint32_t length_of(unsigned long number)
 	return LEAST + (uint32_t)(number % LENGTHS);
 }
 
-static void put_on(struct ring *r, struct mbufpool_parcel *parcel)
+static void put_on(struct ring *r, void *packed)
 {
 	unsigned long at = __atomic_load_n(&r->sent, __ATOMIC_RELAXED);
 
 	while (at - __atomic_load_n(&r->taken, __ATOMIC_SEQ_CST) == SLOTS)
 		sched_yield();
-	r->parcel[at % SLOTS] = parcel;
+	r->packed[at % SLOTS] = packed;
 	__atomic_store_n(&r->sent, at + 1, __ATOMIC_SEQ_CST);
 }
 
-static struct mbufpool_parcel *take_off(struct ring *r)
+static void *take_off(struct ring *r)
 {
 	unsigned long at = __atomic_load_n(&r->taken, __ATOMIC_RELAXED);
-	struct mbufpool_parcel *parcel;
+	void *packed;
 
 	while (__atomic_load_n(&r->sent, __ATOMIC_SEQ_CST) == at)
 		sched_yield();
-	parcel = r->parcel[at % SLOTS];
+	packed = r->packed[at % SLOTS];
 	__atomic_store_n(&r->taken, at + 1, __ATOMIC_SEQ_CST);
-	return parcel;
+	return packed;
 }
 
 static void send_over(struct ring *r, struct mbufpool_worker *worker, uint32_t slot,
@@ -96,22 +97,25 @@ static void send_over(struct ring *r, struct mbufpool_worker *worker, uint32_t s
 {
 	while (again(mbufpool_worker_send(worker, slot, parcel, 1)))
 		;
-	put_on(r, parcel);
+	put_on(r, mbufpool_parcel_pack(parcel, BUFFER));
 }
 
-/* Receives the next packet, and returns its parcel, in which it can be sent on. */
-static struct mbufpool_parcel *receive_from(struct ring *r, struct mbufpool_worker *worker, uint32_t *slot)
+/* Receives the next packet, and returns the pointer by which it came. */
+static void *receive_from(struct ring *r, struct mbufpool_worker *worker, uint32_t *slot)
 {
-	struct mbufpool_parcel *parcel = take_off(r);
+	void *packed = take_off(r);
+	struct one_segment room;
+	struct mbufpool_parcel *parcel = mbufpool_parcel_unpack(packed, BUFFER, &room.parcel);
 
 	while (again(mbufpool_worker_receive(worker, parcel, slot)))
 		;
-	return parcel;
+	return packed;
 }
 
 static void *receive_all(void *arg)
 {
 	struct stage *s = (struct stage *)arg;
+	struct one_segment away = { { 0 }, { 0, 0, 0, 0, 0, 0 } };
 	struct mbufpool_packet packet;
 	unsigned long number;
 	uint32_t length;
@@ -123,7 +127,7 @@ static void *receive_all(void *arg)
 			(uint16_t)(HEADER + length_of(number)), &length)))
 			;
 		__atomic_store_n(&first_word[packet.element], (uint32_t)number, __ATOMIC_RELAXED);
-		send_over(s->to[0], s->worker, packet.slot, &parcels[packet.element].parcel);
+		send_over(s->to[0], s->worker, packet.slot, &away.parcel);
 	}
 	return NULL;
 }
@@ -131,26 +135,26 @@ static void *receive_all(void *arg)
 static void *route_all(void *arg)
 {
 	struct stage *s = (struct stage *)arg;
-	struct mbufpool_parcel *parcel;
+	struct one_segment away = { { 0 }, { 0, 0, 0, 0, 0, 0 } };
 	struct mbufpool_packet clone;
 	unsigned long number;
 	uint32_t slot, length;
 
 	for (number = 0; number < s->packets; number++) {
-		parcel = receive_from(s->from, s->worker, &slot);
+		receive_from(s->from, s->worker, &slot);
 		while (again(mbufpool_worker_adj(s->worker, slot, HEADER, &length)))
 			;
 		s->wrong += length != length_of(number);
 		while (again(mbufpool_worker_clone(s->worker, slot, &clone)))
 			;
-		send_over(s->to[0], s->worker, slot, parcel);
+		send_over(s->to[0], s->worker, slot, &away.parcel);
 		send_over(s->to[1], s->worker, clone.slot, &parcels[clone.element].parcel);
 	}
 	return NULL;
 }
 
-/* Whether a packet is the one of this number, and came in the parcel of its first element. */
-static int is_right(struct stage *s, uint32_t slot, const struct mbufpool_parcel *parcel, unsigned long number)
+/* Whether a packet is the one of this number, and a clone came in the parcel of its element. */
+static int is_right(struct stage *s, uint32_t slot, const void *packed, unsigned long number)
 {
 	struct mbufpool_segment segment;
 	uint32_t length;
@@ -161,7 +165,7 @@ static int is_right(struct stage *s, uint32_t slot, const struct mbufpool_parcel
 		;
 	s->bytes += length;
 	return length == length_of(number) && segment.len == length &&
-		parcel == &parcels[segment.element].parcel &&
+		(packed == &parcels[segment.element]) == s->has_clones &&
 		(segment.buffer != segment.element) == s->has_clones &&
 		__atomic_load_n(&first_word[segment.buffer], __ATOMIC_RELAXED) == (uint32_t)number;
 }
@@ -169,13 +173,13 @@ static int is_right(struct stage *s, uint32_t slot, const struct mbufpool_parcel
 static void *transmit_all(void *arg)
 {
 	struct stage *s = (struct stage *)arg;
-	struct mbufpool_parcel *parcel;
 	unsigned long number;
 	uint32_t slot;
+	void *packed;
 
 	for (number = 0; number < s->packets; number++) {
-		parcel = receive_from(s->from, s->worker, &slot);
-		s->wrong += !is_right(s, slot, parcel, number);
+		packed = receive_from(s->from, s->worker, &slot);
+		s->wrong += !is_right(s, slot, packed, number);
 		while (again(mbufpool_worker_free(s->worker, slot)))
 			;
 		s->freed++;
@@ -201,7 +205,7 @@ int main(int argc, char **argv)
 {
 	static void *(*const work[WORKERS])(void *) = { receive_all, route_all, transmit_all, transmit_all };
 	static struct ring received, packets, clones;
-	struct mbufpool_limits limits = { POPULATION, CACHE, WORKERS, 0, 2048, 65535, 64 };
+	struct mbufpool_limits limits = { POPULATION, CACHE, WORKERS, 0, BUFFER, 65535, 64 };
 	struct mbufpool_worker worker[WORKERS] = { MBUFPOOL_NONE };
 	struct stage stage[WORKERS] = {
 		{ &worker[0], NULL, { &received, NULL }, 0, 0, 0, 0, 0 },
