@@ -319,18 +319,24 @@ static void copy_any(struct box *from, struct box *to)
 	from->letter.parcel.segments = 0;
 }
 
+/* Any number of so many bits, at times the greatest. */
+static uint32_t any_of_bits(struct thread *t, uint32_t bits)
+{
+	return below(t, 8) ? below(t, 1u << bits) : (1u << bits) - 1;
+}
+
 /* Any parcel of one segment, that no pool has to have sent. */
 static void write_any(struct thread *t, struct letter *letter)
 {
 	struct mbufpool_parcel_segment *of = letter->segment;
 
 	letter->parcel.segments = 1;
-	of->element = below(t, 1 << 24);
+	of->element = any_of_bits(t, 24);
 	of->indirect = below(t, 8) == 0;
-	of->base = of->indirect ? below(t, 1 << 24) : 0;
-	of->off = (uint16_t)below(t, 1 << 16);
-	of->len = (uint16_t)below(t, 1 << 16);
-	of->buf = (uint16_t)below(t, 1 << 16);
+	of->base = of->indirect ? any_of_bits(t, 24) : 0;
+	of->off = (uint16_t)any_of_bits(t, 16);
+	of->len = (uint16_t)any_of_bits(t, 16);
+	of->buf = (uint16_t)any_of_bits(t, 16);
 }
 
 /* Makes a pointer of a parcel, and a parcel of that: the same bytes as before, in `letter` again. */
