@@ -339,25 +339,33 @@ static void write_any(struct thread *t, struct letter *letter)
 	of->buf = (uint16_t)any_of_bits(t, 16);
 }
 
-/* Makes a pointer of a parcel, and a parcel of that: the same bytes as before, in `letter` again. */
+/* Makes a pointer of a parcel, and a parcel of that: the same bytes as before, in `letter` again. Of the
+ * room for it, which isn't zeros, only that parcel is written, or nothing. */
 static void pack_any(struct thread *t, struct letter *letter)
 {
 	const struct letter before = *letter;
 	const struct mbufpool_parcel_segment *of = before.segment;
 	const uint32_t buf = below(t, 8) ? of->buf : below(t, 1 << 16);
 	const int is_alone = before.parcel.segments == 1 && !of->indirect && of->buf == buf;
-	struct letter room = { { 0 }, { { 0, 0, 0, 0, 0, 0 } } };
-	void *packed = mbufpool_parcel_pack(&letter->parcel, buf);
-	struct mbufpool_parcel *parcel = mbufpool_parcel_unpack(packed, buf, &room.parcel);
+	struct letter room, room_before;
+	struct mbufpool_parcel *parcel;
+	void *packed;
 
+	memset(&room, 0x5a, sizeof(room));
+	room_before = room;
+	packed = mbufpool_parcel_pack(&letter->parcel, buf);
+	parcel = mbufpool_parcel_unpack(packed, buf, &room.parcel);
 	MUST((packed == letter) == !is_alone && (parcel == &room.parcel) == is_alone);
 	if (is_alone) {
 		MUST(letter->parcel.segments == 0);
 		letter->parcel = room.parcel;
 		letter->segment[0] = room.segment[0];
+		room.parcel = room_before.parcel;
+		room.segment[0] = room_before.segment[0];
 	} else
 		MUST(parcel == &letter->parcel);
 	MUST(memcmp(letter, &before, sizeof(before)) == 0);
+	MUST(memcmp(&room, &room_before, sizeof(room)) == 0);
 }
 
 /* The parcel of any box, and another that no pool knows. */
