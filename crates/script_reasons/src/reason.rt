@@ -1,7 +1,8 @@
 //! What is told of a script that isn't read.
 
-ghost use Rattle.std.specs.Prelude.{◌≡◌, OnOk};
+ghost use Rattle.std.specs.Prelude.{◌≡◌, ◌++◌, codes, OnOk};
 ghost use Rattle.std.specs.Io.KnownBytes.{Appends};
+ghost use Rattle.script_reasons.specs.declared.reason.Reason.TheVariants.{Byte};
 ghost use Rattle.script_reasons.specs.Texts.{after_word, before_word, maker_text, numbers_text, place_text, quoted, reason_text, sentence_of, text_of};
 
 use std::io;
@@ -190,21 +191,10 @@ impl Reason<'_> {
     {
         match *self {
             Reason::Layout(layout) => out.write_all(layout.sentence().as_bytes()),
-            Reason::Byte(byte) => write!(
-                out,
-                "byte {byte} is not of a line: write spaces and printed ASCII characters"
-            ),
-            Reason::Word(fault, word) => {
-                out.write_all(fault.before().as_bytes())?;
-                out.write_all(word)?;
-                out.write_all(fault.after().as_bytes())
-            }
-            Reason::Missing(usage) => write!(out, "a word is missing: write '{usage}'"),
-            Reason::Extra(word, usage) => {
-                write_quoted(out, word)?;
-                out.write_all(b" is a word too many: write ")?;
-                write_quoted(out, usage.as_bytes())
-            }
+            Reason::Byte(byte) => write_byte(out, byte),
+            Reason::Word(fault, word) => write_word(out, fault, word),
+            Reason::Missing(usage) => write_missing(out, usage),
+            Reason::Extra(word, usage) => write_extra(out, word, usage),
             Reason::Above { what, value, most } => {
                 write_numbers(out, what, value, " is above ", most)
             }
@@ -216,10 +206,7 @@ impl Reason<'_> {
                 cache,
                 elements,
             } => write_numbers(out, what, cache, " needs a pool of at least ", elements),
-            Reason::Made { name, line } => {
-                write_quoted(out, name)?;
-                write_maker(out, line)
-            }
+            Reason::Made { name, line } => write_made(out, name, line),
         }
     }
 }
@@ -231,6 +218,54 @@ fn write_place<W: Write>(out: &mut W, line: u32, column: usize) -> io::Result<()
         (place_text line column)) }
 {
     write!(out, "line {line}, column {column}: ")
+}
+
+/// Writes that no line may have this byte.
+fn write_byte<W: Write>(out: &mut W, byte: u8) -> io::Result<()>
+    ensures { OnOk result (Appends (W.contents out.old) (W.contents out.new)
+        (reason_text (Byte byte))) }
+{
+    write!(
+        out,
+        "byte {byte} is not of a line: write spaces and printed ASCII characters"
+    )
+}
+
+/// Writes what is wrong with a word.
+fn write_word<W: Write>(out: &mut W, fault: WordFault, word: &[u8]) -> io::Result<()>
+    ensures { OnOk result (Appends (W.contents out.old) (W.contents out.new)
+        (before_word fault ++ word.now ++ after_word fault)) }
+{
+    out.write_all(fault.before().as_bytes())?;
+    out.write_all(word)?;
+    out.write_all(fault.after().as_bytes())
+}
+
+/// Writes that a word is missing.
+fn write_missing<W: Write>(out: &mut W, usage: &str) -> io::Result<()>
+    ensures { OnOk result (Appends (W.contents out.old) (W.contents out.new)
+        (codes "a word is missing: write '" ++ usage.now ++ codes "'")) }
+{
+    write!(out, "a word is missing: write '{usage}'")
+}
+
+/// Writes that this word is one too many.
+fn write_extra<W: Write>(out: &mut W, word: &[u8], usage: &str) -> io::Result<()>
+    ensures { OnOk result (Appends (W.contents out.old) (W.contents out.new)
+        (quoted word.now ++ codes " is a word too many: write " ++ quoted usage.now)) }
+{
+    write_quoted(out, word)?;
+    out.write_all(b" is a word too many: write ")?;
+    write_quoted(out, usage.as_bytes())
+}
+
+/// Writes that an earlier line made this name.
+fn write_made<W: Write>(out: &mut W, name: &[u8], line: u32) -> io::Result<()>
+    ensures { OnOk result (Appends (W.contents out.old) (W.contents out.new)
+        (quoted name.now ++ maker_text line)) }
+{
+    write_quoted(out, name)?;
+    write_maker(out, line)
 }
 
 /// Writes which line made a name.
