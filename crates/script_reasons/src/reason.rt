@@ -9,7 +9,7 @@ use std::io;
 use std::io::Write;
 
 /// Why a script isn't read, and where.
-#[derive(Clone, Copy, PartialEq, Eq, Debug)]
+#[derive(Clone, Copy)]
 pub struct Explanation<'a> {
     /// The number of the line, from 1; 0 where the script has too many bytes.
     pub line: u32,
@@ -21,7 +21,7 @@ pub struct Explanation<'a> {
 }
 
 /// What is wrong in a line.
-#[derive(Clone, Copy, PartialEq, Eq, Debug)]
+#[derive(Clone, Copy)]
 pub enum Reason<'a> {
     /// The form of the text or of the line, whatever its words are.
     Layout(Layout),
@@ -59,7 +59,7 @@ pub enum Reason<'a> {
 }
 
 /// What is wrong with the form of a text or of a line.
-#[derive(Clone, Copy, PartialEq, Eq, Debug)]
+#[derive(Clone, Copy)]
 pub enum Layout {
     /// The script has too many bytes.
     ManyBytes,
@@ -80,7 +80,7 @@ pub enum Layout {
 }
 
 /// What is wrong with a word.
-#[derive(Clone, Copy, PartialEq, Eq, Debug)]
+#[derive(Clone, Copy)]
 pub enum WordFault {
     /// It stands in front of the pool line.
     BeforePool,

@@ -14,7 +14,7 @@ use mbuf::packets::{Packets, Pid};
 use mbuf::twin::Twin;
 
 /// One of the calls of `Twin`, with its arguments.
-#[derive(Clone, Copy, PartialEq, Eq, Debug)]
+#[derive(Clone, Copy)]
 pub enum TwinAct {
     /// Does this with the worker's packets of the first pool.
     OnFirst(Act),
