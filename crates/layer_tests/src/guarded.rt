@@ -111,6 +111,50 @@ fn put_each(depot: &Depot, worker: &mut GuardWorker, n: u32) -> usize
     put
 }
 
+/// Puts two elements that the first worker got, by it and by the other, and one that there isn't.
+/// Answers the first element, and what each put came to.
+fn put_by_either(
+    depot: &Depot,
+    first: &mut GuardWorker,
+    second: &mut GuardWorker,
+) -> (u32, [Result<(), NotPut>; 8])
+    requires first { IsGuard depot.now first.old }
+    requires second { IsGuard depot.now second.old }
+    ensures first { IsGuard depot.now first.new }
+    ensures second { IsGuard depot.now second.new }
+{
+    let a = first.get_one(depot).unwrap_or(1001);
+    let b = first.get_one(depot).unwrap_or(1001);
+    let answers = [
+        first.put_one(depot, 1000),
+        first.put_one(depot, a),
+        first.put_one(depot, a),
+        second.put_one(depot, b),
+        second.put_one(depot, b),
+        first.put_one(depot, b),
+        second.put_one(depot, a),
+        second.put_one(depot, a),
+    ];
+    (a, answers)
+}
+
+/// How many of 1,000 elements the second worker puts, how many it puts again, and how many the
+/// first puts then.
+fn put_thrice(
+    depot: &Depot,
+    first: &mut GuardWorker,
+    second: &mut GuardWorker,
+) -> (usize, usize, usize)
+    requires first { IsGuard depot.now first.old }
+    requires second { IsGuard depot.now second.old }
+    ensures first { IsGuard depot.now first.new }
+    ensures second { IsGuard depot.now second.new }
+{
+    let once = put_each(depot, second, 1000);
+    let twice = put_each(depot, second, 1000);
+    (once, twice, put_each(depot, first, 1000))
+}
+
 #[test]
 fn what_is_not_out_is_not_put(rt: HostRuntime) -> Result<(), Fail> {
     let keeping = Keeping {
@@ -124,25 +168,12 @@ fn what_is_not_out_is_not_put(rt: HostRuntime) -> Result<(), Fail> {
             return Ok(());
         }
     };
-    let a = first.get_one(&depot).unwrap_or(1001);
-    let b = first.get_one(&depot).unwrap_or(1001);
-    let answers = [
-        first.put_one(&depot, 1000),
-        first.put_one(&depot, a),
-        first.put_one(&depot, a),
-        second.put_one(&depot, b),
-        second.put_one(&depot, b),
-        first.put_one(&depot, b),
-        second.put_one(&depot, a),
-        second.put_one(&depot, a),
-    ];
+    let (a, answers) = put_by_either(&depot, &mut first, &mut second);
     let mut seen = [0u32; 1000];
     let own = drain(&depot, &mut first, &mut seen);
     let others = drain(&depot, &mut second, &mut seen);
     let none = first.count().wrapping_add(second.count());
-    let once = put_each(&depot, &mut second, 1000);
-    let twice = put_each(&depot, &mut second, 1000);
-    let thrice = put_each(&depot, &mut first, 1000);
+    let counts = put_thrice(&depot, &mut first, &mut second);
     let flushed = second.flush(&depot);
     let mut last = [0u32; 1000];
     let left = drain(&depot, &mut first, &mut last);
@@ -169,8 +200,9 @@ fn what_is_not_out_is_not_put(rt: HostRuntime) -> Result<(), Fail> {
         &0,
         "the counts of both, and all elements",
     );
+    let (once, twice, thrice) = counts;
     same(&rt, &(once, twice), &(1000, 0), "put once, and twice");
-    assert!(rt; thrice <= 32, "{thrice}");
+    assert!(rt; thrice <= 32);
     assert!(rt; flushed.is_ok());
     same(&rt, &left, &1000, "left");
     assert!(rt; last.iter().all(|times: &u32| *times == 1));

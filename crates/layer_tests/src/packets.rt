@@ -6,7 +6,9 @@ ghost use Rattle.commons.specs.Lists.{hand_of, holds_of};
 ghost use Rattle.layer_tests.specs.OwnAtSite.{OwnAtSite};
 
 use crate::equal::{same, text_of};
-use crate::rows::{ONE, REFUSED_AT_A_GET, REFUSED_AT_A_RAISE, ROWS, Step, Steps};
+use crate::rows::{
+    BULKS, DESKS, ONE, PACKETS, REFUSED_AT_A_GET, REFUSED_AT_A_RAISE, Row, SHARED, Step, Steps,
+};
 use commons::laws::a_worker_leaves_the_others;
 use commons::limits::Limits;
 use commons::place::Place;
@@ -175,18 +177,38 @@ fn assert_held<R: Abort>(rt: &R, site: &PlainSite, counts: &[u32], name: &str) {
     }
 }
 
-#[test]
-fn each_row_goes_as_it_says(rt: HostRuntime) -> Result<(), Fail> {
-    for row in ROWS.iter() {
-        let site = played(&rt, row.name, &row.limits, row.workers)?;
+// Each row goes as it says.
+fn play<R: Abort + AllocGlobal>(rt: &R, rows: &[Row]) -> Result<(), Fail> {
+    for row in rows {
+        let site = played(rt, row.name, &row.limits, row.workers)?;
         if let Some(common) = row.common {
-            same(&rt, &site.common(), &common, row.name);
+            same(rt, &site.common(), &common, row.name);
         }
         if let Some(held) = row.held {
-            assert_held(&rt, &site, held, row.name);
+            assert_held(rt, &site, held, row.name);
         }
     }
     Ok(())
+}
+
+#[test]
+fn packets_are_made_chained_and_freed_as_each_row_says(rt: HostRuntime) -> Result<(), Fail> {
+    play(&rt, &PACKETS)
+}
+
+#[test]
+fn bulks_go_as_each_row_says(rt: HostRuntime) -> Result<(), Fail> {
+    play(&rt, &BULKS)
+}
+
+#[test]
+fn packets_pass_over_desks_as_each_row_says(rt: HostRuntime) -> Result<(), Fail> {
+    play(&rt, &DESKS)
+}
+
+#[test]
+fn buffers_are_shared_as_each_row_says(rt: HostRuntime) -> Result<(), Fail> {
+    play(&rt, &SHARED)
 }
 
 // A clone of 32 segments is refused where this many elements are left, and leaves all as before.

@@ -57,8 +57,8 @@ pub(crate) const ONE: Limits = Limits {
     put_rule: PutRule::Keep,
 };
 
-/// The rows.
-pub(crate) static ROWS: [Row; 14] = [
+/// Packets that are made, chained and freed, and their lengths.
+pub(crate) static PACKETS: [Row; 5] = [
     Row {
         name: "a chain is freed",
         limits: ONE,
@@ -139,6 +139,40 @@ pub(crate) static ROWS: [Row; 14] = [
         held: None,
     },
     Row {
+        name: "each act is replied to",
+        limits: Limits {
+            population: 8,
+            cache: 4,
+            ..ONE
+        },
+        workers: &[&[
+            (Step::Act(Act::Alloc), "Allocated(0, 4)"),
+            (
+                Step::Act(Act::AllocBulk(2)),
+                "Bulk([NewPacket { slot: 1, elem: 3 }, NewPacket { slot: 2, elem: 2 }])",
+            ),
+            (Step::Act(Act::Append(0, 10)), "Len(10)"),
+            (Step::Act(Act::Prepend(0, 20)), "Len(30)"),
+            (Step::Act(Act::Adj(0, 5)), "Len(25)"),
+            (Step::Act(Act::Trim(0, 4)), "Len(21)"),
+            (Step::Act(Act::Chain(0, 2)), "Chained(2, 21)"),
+            (Step::Act(Act::PktLen(0)), "Len(21)"),
+            (Step::Act(Act::NbSegs(0)), "Segs(2)"),
+            (
+                Step::Act(Act::Free(0)),
+                "Freed(Freed { back: 2, flushed: 0, put_off: None })",
+            ),
+            (Step::Act(Act::Flush), "Put(Flushed(4))"),
+            (Step::Act(Act::AllocBulk(257)), "Refused(PacketsFull)"),
+        ]],
+        common: None,
+        held: None,
+    },
+];
+
+/// Bulks, and what an alloc leaves in the cache.
+pub(crate) static BULKS: [Row; 3] = [
+    Row {
         name: "an alloc fills the cache with five and takes the last, and a flush gives the other four back",
         limits: Limits {
             population: 8,
@@ -192,36 +226,10 @@ pub(crate) static ROWS: [Row; 14] = [
         common: None,
         held: Some(&[1; 250]),
     },
-    Row {
-        name: "each act is replied to",
-        limits: Limits {
-            population: 8,
-            cache: 4,
-            ..ONE
-        },
-        workers: &[&[
-            (Step::Act(Act::Alloc), "Allocated(0, 4)"),
-            (
-                Step::Act(Act::AllocBulk(2)),
-                "Bulk([NewPacket { slot: 1, elem: 3 }, NewPacket { slot: 2, elem: 2 }])",
-            ),
-            (Step::Act(Act::Append(0, 10)), "Len(10)"),
-            (Step::Act(Act::Prepend(0, 20)), "Len(30)"),
-            (Step::Act(Act::Adj(0, 5)), "Len(25)"),
-            (Step::Act(Act::Trim(0, 4)), "Len(21)"),
-            (Step::Act(Act::Chain(0, 2)), "Chained(2, 21)"),
-            (Step::Act(Act::PktLen(0)), "Len(21)"),
-            (Step::Act(Act::NbSegs(0)), "Segs(2)"),
-            (
-                Step::Act(Act::Free(0)),
-                "Freed(Freed { back: 2, flushed: 0, put_off: None })",
-            ),
-            (Step::Act(Act::Flush), "Put(Flushed(4))"),
-            (Step::Act(Act::AllocBulk(257)), "Refused(PacketsFull)"),
-        ]],
-        common: None,
-        held: None,
-    },
+];
+
+/// Packets on desks, and from worker to worker.
+pub(crate) static DESKS: [Row; 3] = [
     Row {
         name: "each act on a desk is replied to",
         limits: Limits { desks: 2, ..ONE },
@@ -306,6 +314,10 @@ pub(crate) static ROWS: [Row; 14] = [
         common: None,
         held: None,
     },
+];
+
+/// Buffers that several packets use.
+pub(crate) static SHARED: [Row; 3] = [
     Row {
         name: "a count is the number of holds: a clone of a clone uses the same buffer",
         limits: Limits {
