@@ -84,8 +84,8 @@ fn raise_of(world: &World, view: &View, draws: &mut Draws) -> Option<Act> {
     Some(Act::Raise(u64::from(element), u64::from(*count)))
 }
 
-/// The next step of a worker on the busy desk, once a packet is in its slot.
-fn desk_of(kind: Act, work: &Work) -> Option<Act> {
+/// The next step of a worker on its busy desk, where it is of this kind.
+fn next_on_desk(kind: Act, work: &Work) -> Option<Act> {
     match (kind, &work.phase) {
         (Act::Open(_), Phase::Filled(_)) => Some(Act::Open(work.desk)),
         (Act::TakeOut(_), Phase::Seized(_)) => Some(Act::TakeOut(work.desk)),
@@ -94,10 +94,8 @@ fn desk_of(kind: Act, work: &Work) -> Option<Act> {
     }
 }
 
-/// An act of this kind that the worker with this view can play, if there is one. A raise is from
-/// the element's count, at the reference limit too; a desk that is to be held or seized is one of
-/// two, whatever its word. There is none that puts a packet in: its segment is the caller's to draw.
-pub fn fit_step(kind: Act, world: &World, view: &View, draws: &mut Draws) -> Option<Act> {
+/// A step of this kind on the stack that the worker with this view can play, if there is one.
+fn stack_step(kind: Act, world: &World, view: &View, draws: &mut Draws) -> Option<Act> {
     match kind {
         Act::LoadLength => Some(kind),
         Act::LoadHead if view.look.is_none() => Some(kind),
@@ -107,15 +105,46 @@ pub fn fit_step(kind: Act, world: &World, view: &View, draws: &mut Draws) -> Opt
         Act::Cut if view.cut_expected().is_some() => Some(kind),
         Act::StoreLink(..) => store_link_of(view, draws),
         Act::Push if may_push(view) => Some(kind),
+        _ => None,
+    }
+}
+
+/// A step of this kind on a count that the worker with this view can play, if there is one.
+fn count_step(kind: Act, world: &World, view: &View, draws: &mut Draws) -> Option<Act> {
+    match kind {
         Act::Claim(_) => Some(Act::Claim(u64::from(draws.pick(&view.hand)?))),
         Act::Sole(_) => Some(Act::Sole(u64::from(draws.pick(&view.holds)?))),
         Act::SoleFree(_) => Some(Act::SoleFree(u64::from(draws.pick(&view.holds)?))),
         Act::Raise(..) => raise_of(world, view, draws),
         Act::Lower(_) => Some(Act::Lower(u64::from(draws.pick(&view.holds)?))),
         Act::Reset(_) => Some(Act::Reset(u64::from(draws.pick(&view.zeros)?))),
+        _ => None,
+    }
+}
+
+/// A step of this kind on a desk that the worker with this view can play, if there is one.
+fn desk_step(kind: Act, view: &View, draws: &mut Draws) -> Option<Act> {
+    match kind {
         Act::Hold(_) if view.work.is_none() => Some(Act::Hold(draws.below(2) as u32)),
         Act::Seize(_) if view.work.is_none() => Some(Act::Seize(draws.below(2) as u32)),
-        Act::Open(_) | Act::TakeOut(_) | Act::Clear(_) => desk_of(kind, view.work.as_ref()?),
-        _ => None,
+        _ => next_on_desk(kind, view.work.as_ref()?),
+    }
+}
+
+/// An act of this kind that the worker with this view can play, if there is one. A raise is from
+/// the element's count, at the reference limit too; a desk that is to be held or seized is one of
+/// two, whatever its word. There is none that puts a packet in: its segment is the caller's to draw.
+pub fn fit_step(kind: Act, world: &World, view: &View, draws: &mut Draws) -> Option<Act> {
+    match kind {
+        Act::Claim(_)
+        | Act::Sole(_)
+        | Act::SoleFree(_)
+        | Act::Raise(..)
+        | Act::Lower(_)
+        | Act::Reset(_) => count_step(kind, world, view, draws),
+        Act::Hold(_) | Act::Seize(_) | Act::Open(_) | Act::TakeOut(_) | Act::Clear(_) => {
+            desk_step(kind, view, draws)
+        }
+        _ => stack_step(kind, world, view, draws),
     }
 }

@@ -3,7 +3,7 @@
 use commons::packet::Packet;
 
 /// What a player sees of its seat.
-#[derive(Debug, Drop)]
+#[derive(Drop)]
 pub enum Sees {
     /// What the seat knows, and what is in its slot.
     All,
