@@ -41,6 +41,23 @@ fn round_trip(depot: &Depot, worker: &mut Worker, loans: &mut Loans, n: usize) -
     Ok(seen.iter().filter(|times: &&u32| **times == 1).count() as u64)
 }
 
+/// Gets `n` elements, and says whether each number below `n` came once.
+fn gets_each(depot: &Depot, worker: &mut Worker, loans: &mut Loans, n: usize) -> bool
+    requires of { IsWorker depot.now worker.old }
+    requires loans { AreOf depot.now loans.old }
+    requires few { n ≤ 500 }
+    ensures of { IsWorker depot.now worker.new }
+    ensures loans { AreOf depot.now loans.new }
+{
+    let mut out = [0; 500];
+    let mut seen = [0u32; 500];
+    if worker.get(depot, &mut out[..n], loans).is_err() {
+        return false;
+    }
+    tally(&out[..n], &mut seen);
+    seen[..n].iter().all(|times: &u32| *times == 1)
+}
+
 /// Moves 90 elements from one worker to another.
 fn pass_on(
     depot: &Depot,
@@ -115,17 +132,13 @@ fn a_refused_get_changes_nothing(rt: HostRuntime) -> Result<(), Fail> {
     let mut out = [0; 501];
     let refused = worker.get(&depot, &mut out, &mut loans);
     let count = worker.count();
-    let mut every = [0; 500];
-    let all = worker.get(&depot, &mut every, &mut loans);
-    let mut seen = [0u32; 500];
-    tally(&every, &mut seen);
+    let every = gets_each(&depot, &mut worker, &mut loans, 500);
     let none = worker.get_one(&depot, &mut loans);
     worker.end(&depot);
     assert!(rt; filled.is_ok());
     same(&rt, &refused, &Err(Cause::NoEntries), "refused");
     same(&rt, &count, &500, "count");
-    assert!(rt; all.is_ok());
-    assert!(rt; seen.iter().all(|times: &u32| *times == 1));
+    assert!(rt; every);
     same(&rt, &none, &Err(Cause::NoEntries), "none");
     Ok(())
 }
@@ -154,10 +167,7 @@ fn what_two_workers_flush_a_third_gets(rt: HostRuntime) -> Result<(), Fail> {
         second.end(&depot);
         panic!(rt; "no worker")
     };
-    let mut out = [0; 300];
-    let all = third.get(&depot, &mut out, &mut loans);
-    let mut seen = [0u32; 300];
-    tally(&out, &mut seen);
+    let every = gets_each(&depot, &mut third, &mut loans, 300);
     first.end(&depot);
     second.end(&depot);
     third.end(&depot);
@@ -165,8 +175,7 @@ fn what_two_workers_flush_a_third_gets(rt: HostRuntime) -> Result<(), Fail> {
     assert!(rt; passed.is_ok());
     assert!(rt; flushed.is_ok());
     assert!(rt; flushed_too.is_ok());
-    assert!(rt; all.is_ok());
-    assert!(rt; seen.iter().all(|times: &u32| *times == 1));
+    assert!(rt; every);
     Ok(())
 }
 
@@ -222,6 +231,19 @@ fn trip_at_hand(depot: &Depot, worker: &mut Worker, loans: &mut Loans, n: usize)
     worker.put_at_hand(depot, &out[..n], loans)
 }
 
+/// The same with no element, a few, a burst, and as many as there is room for.
+fn trips_at_hand(depot: &Depot, worker: &mut Worker, loans: &mut Loans) -> bool
+    requires of { IsWorker depot.now worker.old }
+    requires loans { AreOf depot.now loans.old }
+    ensures of { IsWorker depot.now worker.new }
+    ensures loans { AreOf depot.now loans.new }
+{
+    trip_at_hand(depot, worker, loans, 0)
+        && trip_at_hand(depot, worker, loans, 3)
+        && trip_at_hand(depot, worker, loans, 32)
+        && trip_at_hand(depot, worker, loans, 40)
+}
+
 /// Gets one element at hand, where there is one, and says whether a put at hand took it.
 fn one_at_hand(depot: &Depot, worker: &mut Worker, loans: &mut Loans) -> Option<bool>
     requires of { IsWorker depot.now worker.old }
@@ -253,24 +275,17 @@ fn lists_at_hand_are_got_and_put(rt: HostRuntime) -> Result<(), Fail> {
     let filled = fill(&depot, 100, &mut worker, &mut loans);
     let none = one_at_hand(&depot, &mut other, &mut loans);
     let one = one_at_hand(&depot, &mut worker, &mut loans);
-    let nothing = trip_at_hand(&depot, &mut worker, &mut loans, 0);
-    let few = trip_at_hand(&depot, &mut worker, &mut loans, 3);
-    let burst = trip_at_hand(&depot, &mut worker, &mut loans, 32);
-    let most = trip_at_hand(&depot, &mut worker, &mut loans, 40);
+    let lists = trips_at_hand(&depot, &mut worker, &mut loans);
     let count = worker.count();
-    let mut every = [0; 100];
-    let all = worker.get(&depot, &mut every, &mut loans);
-    let mut seen = [0u32; 100];
-    tally(&every, &mut seen);
+    let every = gets_each(&depot, &mut worker, &mut loans, 100);
     other.end(&depot);
     worker.end(&depot);
     same(&rt, &none, &None, "none");
     assert!(rt; filled.is_ok());
     same(&rt, &one, &Some(true), "one");
-    assert!(rt; nothing && few && burst && most);
+    assert!(rt; lists);
     same(&rt, &count, &100, "count");
-    assert!(rt; all.is_ok());
-    assert!(rt; seen.iter().all(|times: &u32| *times == 1));
+    assert!(rt; every);
     Ok(())
 }
 
