@@ -18,7 +18,7 @@ use std::alloc::{AllocError, Global};
 pub const MAX_NAMES: usize = 256;
 
 /// The first word of a command.
-#[derive(Clone, Copy, PartialEq, Eq, Debug)]
+#[derive(Clone, Copy)]
 pub enum Verb {
     Alloc,
     Bulk,

@@ -8,7 +8,7 @@ use commons::seq::Seq;
 use std::slice;
 
 /// What a line asks a worker to do.
-#[derive(Debug, Drop)]
+#[derive(Drop)]
 pub enum Command {
     /// Makes a packet of one element.
     Alloc(Name),

@@ -51,7 +51,7 @@ pub fn key_of(word: &[u8]) -> Option<Key>
 }
 
 /// The values that the keys of a pool line were given so far.
-#[derive(Clone, Copy, PartialEq, Eq, Debug)]
+#[derive(Clone, Copy)]
 pub struct Settings {
     cache: Option<u64>,
     workers: Option<u64>,

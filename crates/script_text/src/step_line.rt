@@ -14,7 +14,7 @@ use crate::steps::{ElementOrEnd, Step};
 use std::alloc::{AllocError, Global};
 
 /// The first word of a step, unless it is `putin`.
-#[derive(Clone, Copy, PartialEq, Eq, Debug)]
+#[derive(Clone, Copy)]
 pub enum StepVerb {
     LoadLength,
     Reserve,

@@ -7,7 +7,7 @@ use commons::limits::{Limits, PutRule};
 
 /// A limit of a pool that its snapshots have alike. How many workers they have is none: a dump has
 /// one for each cache that has something.
-#[derive(Clone, Copy, PartialEq, Eq, Debug)]
+#[derive(Clone, Copy)]
 pub enum Limit {
     /// How many elements there are.
     Population,
@@ -46,7 +46,7 @@ impl Limit {
 }
 
 /// A limit, and what it is in two snapshots.
-#[derive(Clone, Copy, PartialEq, Eq, Debug)]
+#[derive(Clone, Copy)]
 pub struct Difference {
     /// Which limit.
     pub limit: Limit,

@@ -23,7 +23,7 @@ pub enum Failure<'a> {
 }
 
 /// Which of two snapshots that stand in one text.
-#[derive(Clone, Copy, PartialEq, Eq, Debug)]
+#[derive(Clone, Copy)]
 pub enum Which {
     First,
     Second,

@@ -7,7 +7,7 @@ use script_io::BYTES_READ;
 use snapshot_json::MAX_BYTES;
 
 /// What a file is.
-#[derive(Clone, Copy, PartialEq, Eq, Debug)]
+#[derive(Clone, Copy)]
 pub enum Kind {
     /// A script, of which no more bytes are read than show that they are too many.
     Script,
