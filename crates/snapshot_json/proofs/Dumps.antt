@@ -13,7 +13,7 @@ use Rattle.serde_json.specs.View as views
 use Rattle.serde_json.proofs.Numbers.{number_of-decimal}
 use Rattle.snapshot.specs.declared.snapshot.ShareData.{ShareData}
 use Rattle.snapshot.specs.declared.snapshot.Snapshot.{Snapshot}
-use Rattle.snapshot_json.specs.Dumped.{AreOf, IsOf, Passes}
+use Rattle.snapshot_json.specs.Dumped.{AreOf, IsOf, Passes, PassesTwo}
 use Rattle.snapshot_json.specs.SnapshotData.{common_data, guest_data, guests_data, limits_data, places_data, rule_data, share_data, shares_data}
 use Rattle.statement_text.specs.StatementData.{base_data, count_data, counts_data, seg_data}
 
@@ -70,60 +70,51 @@ pub member_read : (key : List ℕ) (j : Json) (d : Data) (old new : json.Members
     Passes key d old new
 member_read key j d old new e h = λ found. rw (e, h) refl
 
-pub seg_read : (seg : Seg) (v : Json) (m0 m1 m2 m3 m4 m5 : json.Members) →
-    v ≡ json.object m0 →
-    Passes (codes "elem") (count_data seg.elem) m0 m1 →
-    Passes (codes "base") (base_data seg.base) m1 m2 →
-    Passes (codes "off") (count_data seg.data_off) m2 m3 →
-    Passes (codes "len") (count_data seg.data_len) m3 m4 →
-    Passes (codes "buf") (count_data seg.buf_len) m4 m5 →
-    m5 ≡ json.no_members →
-    IsOf v (seg_data seg)
-seg_read seg v m0 m1 m2 m3 m4 m5 e p1 p2 p3 p4 p5 end = rw (e, p1, p2, p3, p4, p5, end) refl
+pub two_read : (key next_key : List ℕ) (d e : Data) (old mid new : json.Members) → Passes key d old mid →
+    Passes next_key e mid new → PassesTwo key d next_key e old new
+two_read key next_key d e old mid new p q = λ found. rw (p, q) refl
 
-pub share_read : (share : ShareData) (v : Json) (m0 m1 m2 m3 : json.Members) →
+pub seg_read : (seg : Seg) (v : Json) (m0 m1 m2 m3 : json.Members) →
     v ≡ json.object m0 →
-    Passes (codes "worker") (count_data share.worker) m0 m1 →
-    Passes (codes "cache") (counts_data share.cache) m1 m2 →
-    Passes (codes "slots") (places_data share.slots) m2 m3 →
+    PassesTwo (codes "elem") (count_data seg.elem) (codes "base") (base_data seg.base) m0 m1 →
+    PassesTwo (codes "off") (count_data seg.data_off) (codes "len") (count_data seg.data_len) m1 m2 →
+    Passes (codes "buf") (count_data seg.buf_len) m2 m3 →
     m3 ≡ json.no_members →
-    IsOf v (share_data share)
-share_read share v m0 m1 m2 m3 e p1 p2 p3 end = rw (e, p1, p2, p3, end) refl
+    IsOf v (seg_data seg)
+seg_read seg v m0 m1 m2 m3 e p1 p2 p3 end = rw (e, p1, p2, p3, end) refl
 
-pub guest_read : (guest : Guest) (v : Json) (m0 m1 m2 : json.Members) →
+pub share_read : (share : ShareData) (v : Json) (m0 m1 m2 : json.Members) →
     v ≡ json.object m0 →
-    Passes (codes "worker") (count_data guest.worker) m0 m1 →
-    Passes (codes "elem") (count_data guest.elem) m1 m2 →
+    PassesTwo (codes "worker") (count_data share.worker) (codes "cache") (counts_data share.cache) m0 m1 →
+    Passes (codes "slots") (places_data share.slots) m1 m2 →
     m2 ≡ json.no_members →
+    IsOf v (share_data share)
+share_read share v m0 m1 m2 e p1 p2 end = rw (e, p1, p2, end) refl
+
+pub guest_read : (guest : Guest) (v : Json) (m0 m1 : json.Members) →
+    v ≡ json.object m0 →
+    PassesTwo (codes "worker") (count_data guest.worker) (codes "elem") (count_data guest.elem) m0 m1 →
+    m1 ≡ json.no_members →
     IsOf v (guest_data guest)
-guest_read guest v m0 m1 m2 e p1 p2 end = rw (e, p1, p2, end) refl
+guest_read guest v m0 m1 e p1 end = rw (e, p1, end) refl
 
-pub limits_read : (l : Limits) (v : Json) (m0 m1 m2 m3 m4 m5 m6 m7 m8 m9 : json.Members) →
+pub limits_read : (l : Limits) (v : Json) (m0 m1 m2 m3 m4 m5 : json.Members) →
     v ≡ json.object m0 →
-    Passes (codes "population") (count_data l.population) m0 m1 →
-    Passes (codes "cache") (count_data l.cache) m1 m2 →
-    Passes (codes "workers") (count_data l.workers) m2 m3 →
-    Passes (codes "desks") (count_data l.desks) m3 m4 →
-    Passes (codes "buf") (count_data l.buf) m4 m5 →
-    Passes (codes "refs") (count_data l.ref_limit) m5 m6 →
-    Passes (codes "tries") (count_data l.tries) m6 m7 →
-    Passes (codes "start") (count_data l.start_count) m7 m8 →
-    Passes (codes "putrule") (rule_data l.put_rule) m8 m9 →
-    m9 ≡ json.no_members →
+    PassesTwo (codes "population") (count_data l.population) (codes "cache") (count_data l.cache) m0 m1 →
+    PassesTwo (codes "workers") (count_data l.workers) (codes "desks") (count_data l.desks) m1 m2 →
+    PassesTwo (codes "buf") (count_data l.buf) (codes "refs") (count_data l.ref_limit) m2 m3 →
+    PassesTwo (codes "tries") (count_data l.tries) (codes "start") (count_data l.start_count) m3 m4 →
+    Passes (codes "putrule") (rule_data l.put_rule) m4 m5 →
+    m5 ≡ json.no_members →
     IsOf v (limits_data l)
-limits_read l v m0 m1 m2 m3 m4 m5 m6 m7 m8 m9 e p1 p2 p3 p4 p5 p6 p7 p8 p9 end =
-    rw (e, p1, p2, p3, p4, p5, p6, p7, p8, p9, end) refl
+limits_read l v m0 m1 m2 m3 m4 m5 e p1 p2 p3 p4 p5 end = rw (e, p1, p2, p3, p4, p5, end) refl
 
-pub whole_read : (s : Snapshot) (list : List ℕ) (v : Json) (m0 m1 m2 m3 m4 m5 m6 m7 : json.Members) →
+pub whole_read : (s : Snapshot) (list : List ℕ) (v : Json) (m0 m1 m2 m3 m4 : json.Members) →
     v ≡ json.object m0 →
-    Passes (codes "limits") (limits_data s.limits) m0 m1 →
-    Passes (codes "common") (counts_data list) m1 m2 →
-    Passes (codes "counts") (counts_data s.counts) m2 m3 →
-    Passes (codes "desks") (places_data s.desks) m3 m4 →
-    Passes (codes "shares") (shares_data s.shares) m4 m5 →
-    Passes (codes "guests") (guests_data s.guests) m5 m6 →
-    Passes (codes "foreign") (boolean s.foreign) m6 m7 →
-    m7 ≡ json.no_members →
+    PassesTwo (codes "limits") (limits_data s.limits) (codes "common") (counts_data list) m0 m1 →
+    PassesTwo (codes "counts") (counts_data s.counts) (codes "desks") (places_data s.desks) m1 m2 →
+    PassesTwo (codes "shares") (shares_data s.shares) (codes "guests") (guests_data s.guests) m2 m3 →
+    Passes (codes "foreign") (boolean s.foreign) m3 m4 →
+    m4 ≡ json.no_members →
     IsOf v (common_data s list)
-whole_read s list v m0 m1 m2 m3 m4 m5 m6 m7 e p1 p2 p3 p4 p5 p6 p7 end =
-    rw (e, p1, p2, p3, p4, p5, p6, p7, end) refl
+whole_read s list v m0 m1 m2 m3 m4 e p1 p2 p3 p4 end = rw (e, p1, p2, p3, p4, end) refl

@@ -14,6 +14,11 @@ IsOf j d = of_json j ≡ Some d
 abbrev pub Passes : List ℕ → Data → json.Members → json.Members → Type 0
 Passes key d old new = (found : Members) → of_members old found ≡ of_members new (put key d found)
 
+-- so do the first two of the old members
+abbrev pub PassesTwo : List ℕ → Data → List ℕ → Data → json.Members → json.Members → Type 0
+PassesTwo key d next_key e old new =
+    (found : Members) → of_members old found ≡ of_members new (put next_key e (put key d found))
+
 -- values are the data of these, one by one
 abbrev pub AreOf : {X : Type 0} → (X → Data) → List Json → List X → Type 0
 AreOf f js xs = map of_json js ≡ map (λ x. Some (f x)) xs

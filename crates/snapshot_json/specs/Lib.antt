@@ -6,3 +6,4 @@ pub mod Repeats
 pub mod Shown
 pub mod SnapshotData
 pub mod Told
+pub mod Written

@@ -10,7 +10,7 @@ ghost use Rattle.json.specs.Value.{items_view, members_view, value_view};
 ghost use Rattle.pool_statement.specs.declared.guest.Guest.{Guest};
 ghost use Rattle.serde_json.specs.Read.{max_depth, read};
 ghost use Rattle.snapshot.specs.declared.snapshot.ShareData.{ShareData};
-ghost use Rattle.snapshot_json.specs.Dumped.{IsLow, IsOf, Passes};
+ghost use Rattle.snapshot_json.specs.Dumped.{IsLow, IsOf, Passes, PassesTwo};
 ghost use Rattle.snapshot_json.specs.SnapshotData.{common_data};
 
 use crate::reading::Listed;
@@ -63,6 +63,22 @@ fn at<'v, 'a, T: Dumped>(
         }
         _ => None,
     }
+}
+
+/// The parts that the first two members are, if they have these keys, and the members behind them.
+fn two<'v, 'a, A: Dumped, B: Dumped>(
+    alloc: Global,
+    members: Members<'v, 'a>,
+    key: &str,
+    next_key: &str,
+) -> Option<((A, B), Members<'v, 'a>)>
+    ensures { IfSome result (λ r.
+        PassesTwo key.now (A.data_of r.0.0) next_key.now (B.data_of r.0.1)
+        (members_view members.now) (members_view r.1.now)) }
+{
+    let first = at(alloc, members, key)?;
+    let second = at(alloc, first.1, next_key)?;
+    Some(((first.0, second.0), second.1))
 }
 
 /// Says that no member is left.
@@ -205,18 +221,16 @@ impl Dumped for Seg {
 
     fn read(alloc: Global, value: &Value<'_>) -> Option<Seg> {
         let all = members(value)?;
-        let elem = at(alloc, all, "elem")?;
-        let base = at(alloc, elem.1, "base")?;
-        let off = at(alloc, base.1, "off")?;
-        let len = at(alloc, off.1, "len")?;
-        let buf = at(alloc, len.1, "buf")?;
-        ended(buf.1)?;
+        let ((elem, base), rest) = two(alloc, all, "elem", "base")?;
+        let ((data_off, data_len), rest) = two(alloc, rest, "off", "len")?;
+        let (buf_len, rest) = at(alloc, rest, "buf")?;
+        ended(rest)?;
         Some(Seg {
-            elem: elem.0,
-            base: base.0,
-            data_off: off.0,
-            data_len: len.0,
-            buf_len: buf.0,
+            elem,
+            base,
+            data_off,
+            data_len,
+            buf_len,
         })
     }
 }
@@ -244,14 +258,13 @@ impl Dumped for ShareData {
 
     fn read(alloc: Global, value: &Value<'_>) -> Option<ShareData> {
         let all = members(value)?;
-        let worker = at(alloc, all, "worker")?;
-        let cache = at(alloc, worker.1, "cache")?;
-        let slots = at(alloc, cache.1, "slots")?;
-        ended(slots.1)?;
+        let ((worker, cache), rest) = two(alloc, all, "worker", "cache")?;
+        let (slots, rest) = at(alloc, rest, "slots")?;
+        ended(rest)?;
         Some(ShareData {
-            worker: worker.0,
-            cache: cache.0,
-            slots: slots.0,
+            worker,
+            cache,
+            slots,
         })
     }
 }
@@ -264,13 +277,9 @@ impl Dumped for Guest {
 
     fn read(alloc: Global, value: &Value<'_>) -> Option<Guest> {
         let all = members(value)?;
-        let worker = at(alloc, all, "worker")?;
-        let elem = at(alloc, worker.1, "elem")?;
-        ended(elem.1)?;
-        Some(Guest {
-            worker: worker.0,
-            elem: elem.0,
-        })
+        let ((worker, elem), rest) = two(alloc, all, "worker", "elem")?;
+        ended(rest)?;
+        Some(Guest { worker, elem })
     }
 }
 
@@ -282,26 +291,22 @@ impl Dumped for Limits {
 
     fn read(alloc: Global, value: &Value<'_>) -> Option<Limits> {
         let all = members(value)?;
-        let population = at(alloc, all, "population")?;
-        let cache = at(alloc, population.1, "cache")?;
-        let workers = at(alloc, cache.1, "workers")?;
-        let desks = at(alloc, workers.1, "desks")?;
-        let buf = at(alloc, desks.1, "buf")?;
-        let refs = at(alloc, buf.1, "refs")?;
-        let tries = at(alloc, refs.1, "tries")?;
-        let start = at(alloc, tries.1, "start")?;
-        let rule = at(alloc, start.1, "putrule")?;
-        ended(rule.1)?;
+        let ((population, cache), rest) = two(alloc, all, "population", "cache")?;
+        let ((workers, desks), rest) = two(alloc, rest, "workers", "desks")?;
+        let ((buf, ref_limit), rest) = two(alloc, rest, "buf", "refs")?;
+        let ((tries, start_count), rest) = two(alloc, rest, "tries", "start")?;
+        let (put_rule, rest) = at(alloc, rest, "putrule")?;
+        ended(rest)?;
         Some(Limits {
-            population: population.0,
-            cache: cache.0,
-            workers: workers.0,
-            desks: desks.0,
-            buf: buf.0,
-            ref_limit: refs.0,
-            tries: tries.0,
-            start_count: start.0,
-            put_rule: rule.0,
+            population,
+            cache,
+            workers,
+            desks,
+            buf,
+            ref_limit,
+            tries,
+            start_count,
+            put_rule,
         })
     }
 }
@@ -311,29 +316,23 @@ fn listed(alloc: Global, value: &Value<'_>) -> Option<Listed>
     ensures { IfSome result (λ l. IsOf (value_view value.now) (common_data l.shown l.common)) }
 {
     let all = members(value)?;
-    let limits = at(alloc, all, "limits")?;
-    let common = at(alloc, limits.1, "common")?;
-    let counts = at(alloc, common.1, "counts")?;
-    let desks = at(alloc, counts.1, "desks")?;
-    let shares = at(alloc, desks.1, "shares")?;
-    let guests = at(alloc, shares.1, "guests")?;
-    let foreign = at(alloc, guests.1, "foreign")?;
-    ended(foreign.1)?;
+    let ((limits, common), rest) = two(alloc, all, "limits", "common")?;
+    let ((counts, desks), rest) = two(alloc, rest, "counts", "desks")?;
+    let ((shares, guests), rest) = two(alloc, rest, "shares", "guests")?;
+    let (foreign, rest) = at(alloc, rest, "foreign")?;
+    ended(rest)?;
     let shown = Snapshot {
-        limits: limits.0,
+        limits,
         top: 0,
         length: 0,
         links: Seq::new(Vec::new(alloc)),
-        counts: counts.0,
-        desks: desks.0,
-        shares: shares.0,
-        guests: guests.0,
-        foreign: foreign.0,
+        counts,
+        desks,
+        shares,
+        guests,
+        foreign,
     };
-    Some(Listed {
-        shown,
-        common: common.0,
-    })
+    Some(Listed { shown, common })
 }
 
 /// How deep a value of JSON may nest.

@@ -1,7 +1,8 @@
 //! What is wrong with a snapshot's text, and where.
 
-ghost use Rattle.std.specs.Prelude.{◌≡◌, Some};
-ghost use Rattle.snapshot_json.specs.Told.{cause_text, flaw_text, key_name, path_text, places_text, step_text, told_of};
+ghost use Rattle.std.specs.Prelude.{◌≡◌, Some, codes, flat_map};
+ghost use Rattle.std.specs.Fmt.{WritesOnOk};
+ghost use Rattle.snapshot_json.specs.Told.{cause_text, flaw_text, key_name, path_text, place_text, places_text, step_text, told_of};
 
 use crate::MAX_BYTES;
 use std::alloc::AllocError;
@@ -132,8 +133,8 @@ impl Clone for Path {
 impl Copy for Path {}
 
 impl Path {
-    /// The steps, from the whole value on, and behind them as many times none as it is shorter than the
-    /// longest path.
+    /// The steps from the whole value to the part, in order: six places, of which those behind the
+    /// last step are `None`.
     pub fn steps(&self) -> &[Option<Step>]
         ensures { result.now ≡ self.now.steps }
     {
@@ -188,15 +189,24 @@ impl fmt::Display for Path {
                 before: "",
                 step: *first,
             })?;
-            for step in further {
-                f.write(Shown {
-                    before: ".",
-                    step: *step,
-                })?;
-            }
+            write_further(f, further)?;
         }
         Ok(())
     }
+}
+
+/// Writes the steps behind the first.
+fn write_further<W: fmt::Write>(f: &mut fmt::Formatter<W>, further: &[Option<Step>]) -> fmt::Result
+    ensures { WritesOnOk W.write_str_gives f.old result
+        (flat_map (step_text (codes ".")) further.now) f.new }
+{
+    for step in further {
+        f.write(Shown {
+            before: ".",
+            step: *step,
+        })?;
+    }
+    Ok(())
 }
 
 /// What is wrong with a part of a snapshot's value.
@@ -274,7 +284,7 @@ impl fmt::Display for Cause {
     fn fmt<W: fmt::Write>(&self, f: &mut fmt::Formatter<W>) -> fmt::Result {
         match self {
             Cause::Missing => f.write_str("missing"),
-            Cause::Unknown(key) => write!(f, "unknown member {}", key.as_str()),
+            Cause::Unknown(key) => write_unknown(f, key),
             Cause::Twice => f.write_str("twice"),
             Cause::NotObject => f.write_str("not an object"),
             Cause::NotList => f.write_str("not a list"),
@@ -282,11 +292,34 @@ impl fmt::Display for Cause {
             Cause::NotNumber => f.write_str("not a whole number"),
             Cause::NotBase => f.write_str("not a whole number or null"),
             Cause::NotFlag => f.write_str("not true or false"),
-            Cause::OutOfRange(high) => write!(f, "out of 0 to {high}"),
-            Cause::NoElement(population) => write!(f, "not below the population, {population}"),
+            Cause::OutOfRange(high) => write_out_of_range(f, *high),
+            Cause::NoElement(population) => write_no_element(f, *population),
             Cause::Other => f.write_str("not a snapshot"),
         }
     }
+}
+
+/// Writes that no member has this key.
+fn write_unknown<W: fmt::Write>(f: &mut fmt::Formatter<W>, key: &InlineText<SHOWN>) -> fmt::Result
+    ensures { WritesOnOk W.write_str_gives f.old result
+        (cause_text (Cause.Unknown key.now)) f.new }
+{
+    write!(f, "unknown member {}", key.as_str())
+}
+
+/// Writes that a number isn't one of 0 to this one.
+fn write_out_of_range<W: fmt::Write>(f: &mut fmt::Formatter<W>, high: u64) -> fmt::Result
+    ensures { WritesOnOk W.write_str_gives f.old result (cause_text (Cause.OutOfRange high)) f.new }
+{
+    write!(f, "out of 0 to {high}")
+}
+
+/// Writes that a number is no element of a pool with this population.
+fn write_no_element<W: fmt::Write>(f: &mut fmt::Formatter<W>, population: u64) -> fmt::Result
+    ensures { WritesOnOk W.write_str_gives f.old result
+        (cause_text (Cause.NoElement population)) f.new }
+{
+    write!(f, "not below the population, {population}")
 }
 
 impl fmt::Display for Flaw {
@@ -294,10 +327,19 @@ impl fmt::Display for Flaw {
 
     fn fmt<W: fmt::Write>(&self, f: &mut fmt::Formatter<W>) -> fmt::Result {
         let Flaw { path, cause, byte } = self;
-        match path.steps[0] {
-            Some(_) => write!(f, "snapshot {path}: {cause}, at byte {byte}"),
-            None => write!(f, "snapshot: {cause}, at byte {byte}"),
-        }
+        f.write_str("snapshot")?;
+        write_place(f, path)?;
+        write!(f, ": {cause}, at byte {byte}")
+    }
+}
+
+/// Writes the path of a part, with a space in front of it; of the whole value nothing.
+fn write_place<W: fmt::Write>(f: &mut fmt::Formatter<W>, path: &Path) -> fmt::Result
+    ensures { WritesOnOk W.write_str_gives f.old result (place_text path.now.steps) f.new }
+{
+    match path.steps[0] {
+        Some(_) => write!(f, " {path}"),
+        None => Ok(()),
     }
 }
 
@@ -355,14 +397,24 @@ impl fmt::Display for SnapshotFault {
             SnapshotFault::OutOfMemory => f.write_str("out of memory"),
             SnapshotFault::TooLong => write!(f, "snapshot: more than {MAX_BYTES} bytes"),
             SnapshotFault::NotJson(byte) => write!(f, "snapshot: not JSON, at byte {byte}"),
-            SnapshotFault::Wrong(flaw) => write!(f, "{flaw}"),
+            SnapshotFault::Wrong(flaw) => flaw.fmt(f),
             SnapshotFault::Doubled(elem, first, second) => {
-                let places = Places {
-                    first: *first,
-                    second: *second,
-                };
-                write!(f, "fault 108 Doubled element {elem}{places}")
+                write_doubled(f, *elem, *first, *second)
             }
         }
     }
+}
+
+/// Writes the audit's own line of a double.
+fn write_doubled<W: fmt::Write>(
+    f: &mut fmt::Formatter<W>,
+    elem: u32,
+    first: u64,
+    second: u64,
+) -> fmt::Result
+    ensures { WritesOnOk W.write_str_gives f.old result
+        (told_of (SnapshotFault.Doubled elem first second)) f.new }
+{
+    let places = Places { first, second };
+    write!(f, "fault 108 Doubled element {elem}{places}")
 }

@@ -113,6 +113,20 @@ struct Scope {
     population: Option<u64>,
 }
 
+impl Scope {
+    /// Takes in the outermost member whose key this is. Whether it could be passed.
+    fn takes(&mut self, reader: &mut Reader<'_>, key: &str, most: usize) -> bool {
+        if key == "limits" {
+            self.population = population_of(reader, most);
+            return true;
+        }
+        if key == "common" {
+            self.list = true;
+        }
+        reader.skip_value(SKIPPED).is_ok()
+    }
+}
+
 /// What a value has to be, and where it stands.
 struct Expected {
     kind: Kind,
@@ -144,63 +158,68 @@ pub(crate) fn first(alloc: Global, text: &str) -> Result<Flaw, AllocError> {
     let mut scratch = Scratch::new(alloc);
     let scope = scope_of(text, &mut scratch)?;
     let mut reader = Reader::new(text, &mut scratch)?;
-    let kind = if scope.list { Kind::List } else { Kind::Words };
-    let whole = Expected {
-        kind,
-        path: Path::whole(),
-        byte: begin(text.as_bytes(), 0),
-    };
+    let whole = whole_of(text.as_bytes(), scope);
     match value(&mut reader, text.as_bytes(), scope, whole, DEPTH) {
         Ok(()) => Ok(whole.flaw(Cause::Other)),
         Err(flaw) => Ok(flaw),
     }
 }
 
+/// What the whole value of a text has to be.
+fn whole_of(text: &[u8], scope: Scope) -> Expected {
+    Expected {
+        kind: if scope.list { Kind::List } else { Kind::Words },
+        path: Path::whole(),
+        byte: begin(text, 0),
+    }
+}
+
 /// What is known of a text from its outermost members.
 fn scope_of(text: &str, scratch: &mut Scratch) -> Result<Scope, AllocError> {
     let mut reader = Reader::new(text, scratch)?;
+    Ok(scope_in(&mut reader, text.len()))
+}
+
+/// What is known from the members of a reader's value.
+fn scope_in(reader: &mut Reader<'_>, most: usize) -> Scope {
     let mut scope = Scope {
         list: false,
         population: None,
     };
-    if !matches!(reader.next(), Some(Token::BeginObject)) {
-        return Ok(scope);
+    if !begins_object(reader) {
+        return scope;
     }
-    for _ in 0..text.len() {
-        let limits = match reader.next_key() {
-            Ok(Some(key)) => {
-                if key == "common" {
-                    scope.list = true;
-                }
-                key == "limits"
-            }
-            _ => break,
+    for _ in 0..most {
+        let Ok(Some(key)) = reader.next_key() else {
+            break;
         };
-        if limits {
-            scope.population = population_of(&mut reader, text.len());
-        } else if reader.skip_value(SKIPPED).is_err() {
+        if !scope.takes(reader, key, most) {
             break;
         }
     }
-    Ok(scope)
+    scope
+}
+
+/// Whether the next token begins an object.
+fn begins_object(reader: &mut Reader<'_>) -> bool {
+    matches!(reader.next(), Some(Token::BeginObject))
 }
 
 /// The population of limits, where they have one.
 fn population_of(reader: &mut Reader<'_>, most: usize) -> Option<u64> {
-    if !matches!(reader.next(), Some(Token::BeginObject)) {
+    if !begins_object(reader) {
         return None;
     }
     let mut population = None;
     for _ in 0..most {
-        let found = match reader.next_key() {
-            Ok(Some(key)) => key == "population",
-            _ => break,
+        let Ok(Some(key)) = reader.next_key() else {
+            break;
         };
-        if found {
-            match reader.next() {
-                Some(Token::Number(digits)) => population = digits.parse::<u64>().ok(),
-                _ => break,
-            }
+        if key == "population" {
+            let Some(Token::Number(digits)) = reader.next() else {
+                break;
+            };
+            population = digits.parse::<u64>().ok();
         } else if reader.skip_value(SKIPPED).is_err() {
             break;
         }
@@ -269,14 +288,21 @@ fn value(
     if let Some(kind) = items_of(expected.kind) {
         return match token {
             Token::BeginArray if depth > 0 => list(reader, text, scope, expected, kind, depth - 1),
-            Token::Null if matches!(expected.kind, Kind::Place) => Ok(()),
-            _ if matches!(expected.kind, Kind::Place) => Err(expected.flaw(Cause::NotPlace)),
-            _ => Err(expected.flaw(Cause::NotList)),
+            _ => no_list(expected, token),
         };
     }
     match leaf(scope, expected.kind, token) {
         Some(cause) => Err(expected.flaw(cause)),
         None => Ok(()),
+    }
+}
+
+/// Passes a token that stands in place of a list, or finds what is wrong with it.
+fn no_list(expected: Expected, token: Token<'_>) -> Result<(), Flaw> {
+    match (expected.kind, token) {
+        (Kind::Place, Token::Null) => Ok(()),
+        (Kind::Place, _) => Err(expected.flaw(Cause::NotPlace)),
+        _ => Err(expected.flaw(Cause::NotList)),
     }
 }
 
@@ -292,34 +318,58 @@ fn object(
 ) -> Result<(), Flaw> {
     let mut seen = [false; 9];
     for _ in 0..text.len() {
-        let byte = begin(text, reader.offset());
-        let (index, key, kind) = match reader.next_key() {
-            Ok(Some(key)) => match find(members, key) {
-                Some(found) => found,
-                None => {
-                    return Err(Flaw {
-                        path: expected.path,
-                        cause: Cause::Unknown(InlineText::of(key)),
-                        byte,
-                    });
-                }
-            },
-            _ => break,
-        };
-        let path = expected.path.then(Step::Key(key));
-        match seen.get_mut(index) {
-            Some(mark) if !*mark => *mark = true,
-            _ => {
-                return Err(Flaw {
-                    path,
-                    cause: Cause::Twice,
-                    byte,
-                });
-            }
+        match next_member(reader, text, expected.path, members, &mut seen)? {
+            Some(member) => value(reader, text, scope, member, depth)?,
+            None => break,
         }
-        let byte = begin(text, reader.offset());
-        value(reader, text, scope, Expected { kind, path, byte }, depth)?;
     }
+    all_seen(expected, members, &seen)
+}
+
+/// What the value of the next member has to be, if one is left, or what is wrong with its key.
+fn next_member(
+    reader: &mut Reader<'_>,
+    text: &[u8],
+    object: Path,
+    members: Members,
+    seen: &mut [bool],
+) -> Result<Option<Expected>, Flaw> {
+    let byte = begin(text, reader.offset());
+    let Ok(Some(name)) = reader.next_key() else {
+        return Ok(None);
+    };
+    let Some((index, key, kind)) = find(members, name) else {
+        return Err(Flaw {
+            path: object,
+            cause: Cause::Unknown(InlineText::of(name)),
+            byte,
+        });
+    };
+    let path = object.then(Step::Key(key));
+    if !mark(seen, index) {
+        return Err(Flaw {
+            path,
+            cause: Cause::Twice,
+            byte,
+        });
+    }
+    let byte = begin(text, reader.offset());
+    Ok(Some(Expected { kind, path, byte }))
+}
+
+/// Marks the member with this number as seen. Whether it wasn't yet.
+fn mark(seen: &mut [bool], index: usize) -> bool {
+    match seen.get_mut(index) {
+        Some(mark) if !*mark => {
+            *mark = true;
+            true
+        }
+        _ => false,
+    }
+}
+
+/// Tests that an object has each of its members.
+fn all_seen(expected: Expected, members: Members, seen: &[bool]) -> Result<(), Flaw> {
     for (mark, (key, _)) in seen.iter().zip(members.iter()) {
         if !*mark {
             return Err(Flaw {

@@ -1,17 +1,18 @@
 //! A value of JSON read as a snapshot, in either of its forms: what it shows is taken, written
 //! again, and compared with the value.
 
-ghost use Rattle.std.specs.Prelude.{◌≡◌, ◌≤◌, ◌↔◌, false, IfOk, IsTrue, MatchOption};
+ghost use Rattle.std.specs.Prelude.{◌≡◌, ◌≤◌, ◌↔◌, false, IfOk, IsTrue, MatchOption, ℕ};
+ghost use Rattle.commons.specs.Bag.{bag};
 ghost use Rattle.serde_json.specs.Data.{depth};
 ghost use Rattle.serde_json.specs.Read.{max_depth};
 ghost use Rattle.serde_json.specs.View.{view};
 ghost use Rattle.serde_json.specs.Written.{has_float};
-ghost use Rattle.snapshot_json.specs.Reading.{IsNoListData, IsOfPool};
+ghost use Rattle.snapshot_json.specs.Reading.{IsLeastDouble, IsNoListData, IsOfPool};
 ghost use Rattle.snapshot_json.specs.Readings.{IsNoWords, Reads, ReadsCommon, with_list};
 ghost use Rattle.snapshot_json.specs.SnapshotData.{common_data, snapshot_data};
 
 use crate::parts::{self, Stack};
-use crate::text::Repeats;
+use crate::text::{Double, Repeats};
 use crate::{stack, values};
 use commons::seq::Seq;
 use serde_json::Value;
@@ -107,7 +108,7 @@ fn list_form(alloc: Global, value: &Value) -> Result<Option<Listed>, AllocError>
         links: Seq::new(Vec::new(alloc)),
     };
     let shown = parts::snapshot(alloc, value, no_stack)?;
-    let written = values::with_common(alloc, &shown, common.as_slice())?;
+    let written = values::with_common(alloc, &shown, &common)?;
     if is_same(alloc, value, &written)? {
         Ok(Some(Listed { shown, common }))
     } else {
@@ -120,25 +121,43 @@ pub(crate) fn with_words(alloc: Global, listed: Listed) -> Result<Reading, Alloc
     ensures { IfOk result
         (λ reading. ReadsCommon (common_data listed.shown listed.common) reading) }
 {
-    let Listed { shown, common } = listed;
-    let population = shown.limits.population;
-    if !stack::has_words(common.as_slice(), population) {
+    let population = listed.shown.limits.population;
+    if !stack::has_words(listed.common.as_slice(), population) {
         return Ok(Reading::Other);
     }
-    match stack::doubled(alloc, common.as_slice(), population as usize)? {
-        Some(double) => {
-            let snapshot = with_stack(alloc, shown, &[])?;
-            Ok(Reading::Twice(Repeats {
-                snapshot,
-                common,
-                double,
-            }))
-        }
-        None => {
-            let snapshot = with_stack(alloc, shown, common.as_slice())?;
-            Ok(Reading::Whole(snapshot))
-        }
+    match stack::doubled(alloc, listed.common.as_slice(), population as usize)? {
+        Some(double) => twice(alloc, listed, double),
+        None => once(alloc, listed),
     }
+}
+
+/// The snapshot with the words of an empty stack, beside its list, in which this element is the
+/// least that stands twice.
+fn twice(alloc: Global, listed: Listed, double: Double) -> Result<Reading, AllocError>
+    requires elements { IsOfPool listed.shown.limits.population listed.common }
+    requires least { IsLeastDouble listed.common double.elem double.first double.second }
+    ensures { IfOk result
+        (λ reading. ReadsCommon (common_data listed.shown listed.common) reading) }
+{
+    let Listed { shown, common } = listed;
+    let snapshot = with_stack(alloc, shown, &[])?;
+    Ok(Reading::Twice(Repeats {
+        snapshot,
+        common,
+        double,
+    }))
+}
+
+/// The snapshot with the words of its list, in which each element stands once.
+fn once(alloc: Global, listed: Listed) -> Result<Reading, AllocError>
+    requires elements { IsOfPool listed.shown.limits.population listed.common }
+    requires once { (e : ℕ) → bag listed.common e ≤ 1 }
+    ensures { IfOk result
+        (λ reading. ReadsCommon (common_data listed.shown listed.common) reading) }
+{
+    let Listed { shown, common } = listed;
+    let snapshot = with_stack(alloc, shown, common.as_slice())?;
+    Ok(Reading::Whole(snapshot))
 }
 
 /// The snapshot with the words of a list of its pool's elements, each of which stands there once.
