@@ -1,8 +1,0 @@
-use Rattle.std.proofs.Common.{◌≡◌, map, take}
-use Rattle.serde_json.specs.View.{view}
-use Rattle.statement_text.specs.StatementData.{desk_data}
-use Rattle.statement_text.proofs.values.desks.Given as goal
-
--- the values so far
-abbrev pub invariant-loop-packet : goal.invariant-loop-packet
-invariant-loop-packet l = map view l.values.items ≡ map desk_data (take l.packet-index l.desks)
