@@ -2,7 +2,7 @@
 
 ghost use Rattle.std.specs.Prelude.{◌≡◌, IfOk};
 ghost use Rattle.serde_json.specs.View.{view};
-ghost use Rattle.stays.specs.StayData.{part_data, parts_data, stay_data, stays_data};
+ghost use Rattle.stays.specs.StayData.{part_data, parts_data, stay_data, stay_data_at, stays_data};
 
 use crate::text::first;
 use crate::used::{Part, Place, Used};
@@ -24,17 +24,29 @@ pub(crate) fn stays(alloc: Global, stay: &[Used]) -> Result<Value, AllocError>
 fn staying(alloc: Global, used: &Used) -> Result<Value, AllocError>
     ensures { IfOk result (λ v. view v ≡ stay_data used.now) }
 {
-    let elem = first(used.parts.as_slice());
-    let segs = parts(alloc, used.parts.as_slice())?;
     match used.place {
-        Place::Slot(worker, slot) => json!(in alloc; {
-            "elem": elem,
-            "segs": segs,
-            "slot": slot,
-            "worker": worker
-        }),
-        Place::Desk(desk) => json!(in alloc; {"desk": desk, "elem": elem, "segs": segs}),
+        Place::Slot(worker, slot) => in_slot(alloc, worker, slot, used.parts.as_slice()),
+        Place::Desk(desk) => on_desk(alloc, desk, used.parts.as_slice()),
     }
+}
+
+/// A packet of these segments in a slot of a worker.
+fn in_slot(alloc: Global, worker: u32, slot: u32, segs: &[Part]) -> Result<Value, AllocError>
+    ensures { IfOk result (λ v. view v ≡ stay_data_at (Place.Slot worker slot) segs.now) }
+{
+    json!(in alloc; {
+        "elem": first(segs),
+        "segs": parts(alloc, segs)?,
+        "slot": slot,
+        "worker": worker
+    })
+}
+
+/// A packet of these segments on a desk.
+fn on_desk(alloc: Global, desk: u32, segs: &[Part]) -> Result<Value, AllocError>
+    ensures { IfOk result (λ v. view v ≡ stay_data_at (Place.Desk desk) segs.now) }
+{
+    json!(in alloc; {"desk": desk, "elem": first(segs), "segs": parts(alloc, segs)?})
 }
 
 /// The segments of a packet.
