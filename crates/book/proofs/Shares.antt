@@ -3,9 +3,10 @@ use Rattle.std.proofs.Common.{ℕ, ◌≡◌, ◌+◌, ◌<◌, List, [], ◌∷
 use Rattle.std.proofs.lemmas.List.{append-nil, flat_map_more, map-append, take_more}
 use Rattle.std.proofs.lemmas.List.Elements.{All-append, All-cons, All-nil}
 use Rattle.std.specs.Prelude.{flat_map}
+use Rattle.commons.specs.declared.packet.Seg.{Seg}
 use Rattle.mbuf.specs.Members.{Member, slots}
 use Rattle.snapshot.specs.declared.snapshot.ShareData.{ShareData}
-use Rattle.snapshot.specs.inside.Checked.{HasPackets, HavePackets}
+use Rattle.snapshot.specs.inside.Checked.{HasPackets, HavePackets, IsPacketIn}
 use Rattle.book.specs.Books.{shares_in}
 use Rattle.pool_model.specs.Guests.{guests_by}
 use Rattle.snapshot.specs.Closing.{share_of}
@@ -60,6 +61,16 @@ guests_none_more places k place l e f =
     ap (λ ps. flat_map guests_by (shares_in ps)) (take_more places k place l)
     ∙ ap (λ p. flat_map guests_by (shares_in (take k places ++ p ∷ []))) (sym e ∙ f)
     ∙ ap (flat_map guests_by) (shares_in-append (take k places) (None ∷ []) ∙ append-nil (shares_in (take k places)))
+
+-- one place more
+pub taken_more : {A : Type 0} → (places : List A) (k : ℕ) (place : A) → k < length places → place ≡ get_or places k place →
+    take (k + 1) places ≡ take k places ++ place ∷ []
+taken_more places k place l e = take_more places k place l ∙ ap (λ p. take k places ++ p ∷ []) (sym e)
+
+-- a packet more, or nothing more, in a table
+pub place_more : (table : List (Option (List Seg))) (place : Option (List Seg)) → HasPackets table → IsPacketIn place →
+    HasPackets (table ++ place ∷ [])
+place_more table place all one = All-append IsPacketIn table (place ∷ []) all (All-cons IsPacketIn place [] one (All-nil IsPacketIn))
 
 -- one share more with packets alone in its slots
 pub packets_more : (shares : List ShareData) (share : ShareData) → HavePackets shares → HasPackets share.slots →

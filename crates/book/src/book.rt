@@ -154,14 +154,9 @@ pub fn deposit<R: Wait>(rt: &R, book: &Mutex<Book>, share: Share) -> Result<(), 
 fn no_shares(alloc: Global, workers: usize) -> Result<Vec<Option<Share>>, AllocError>
     ensures { IfOk result (λ v. v.items ≡ replicate workers None) }
 {
-    let mut places: Vec<Option<Share>> = Vec::with_capacity(alloc, workers)?;
+    let mut places = Vec::with_capacity(alloc, workers)?;
     for _ in 0..workers {
-        if let Err(failed) = places.push(None) {
-            if let Some(share) = failed.value {
-                share.lose();
-            }
-            unreachable!()
-        }
+        places.push_reserved(None);
     }
     Ok(places)
 }

@@ -1,11 +1,11 @@
 //! A closed pool and its shares as plain data, and each of two pools.
 
-ghost use Rattle.std.specs.Prelude.{◌≡◌, IfOk, None, map, slice_index_or};
+ghost use Rattle.std.specs.Prelude.{[], ◌≡◌, IfOk, None, map, slice_index_or};
 ghost use Rattle.book.specs.Books.{shares_in};
 ghost use Rattle.book.specs.Left.{AreOfPackets};
 ghost use Rattle.book.specs.Settling.{snapshot_with};
 ghost use Rattle.book.specs.TwinSettling.{first_with, second_with};
-ghost use Rattle.snapshot.specs.Closing.{share_of};
+ghost use Rattle.snapshot.specs.Closing.{share_of, snapshot_of};
 ghost use Rattle.snapshot.specs.inside.Checked.{HasPackets, HavePackets, IsPacketIn};
 
 use crate::book::Book;
@@ -13,6 +13,7 @@ use crate::guests::guests;
 use crate::share::Share;
 use crate::twin_book::TwinBook;
 use commons::closed::Closed;
+use commons::limits::Limits;
 use commons::packet::{Packet, Seg};
 use commons::seq::Seq;
 use mbuf::packets::{Packets, SLOTS};
@@ -28,14 +29,25 @@ pub(crate) fn snapshot(alloc: Global, closed: &Closed, book: &Book) -> Result<Sn
     ensures typed { IfOk result (λ _. AreOfPackets (snapshot_with book.now closed.now)) }
 {
     book.fits_its_limits();
+    let mut snapshot = without_shares(alloc, book.limits(), closed)?;
+    let shares = shares(alloc, book.places())?;
+    snapshot.shares = shares;
+    Ok(snapshot)
+}
+
+/// The snapshot of a closed pool of these limits without its shares.
+fn without_shares(alloc: Global, limits: &Limits, closed: &Closed) -> Result<Snapshot, AllocError>
+    ensures same { IfOk result (λ s. s ≡ snapshot_of limits.now closed.now []) }
+    ensures on_desks { IfOk result (λ s. HasPackets s.desks) }
+{
     Ok(Snapshot {
-        limits: *book.limits(),
+        limits: *limits,
         top: closed.top,
         length: closed.length,
         links: copied(alloc, closed.links.as_slice())?,
         counts: copied(alloc, closed.counts.as_slice())?,
         desks: desks(alloc, closed.desks.as_slice())?,
-        shares: shares(alloc, book.places())?,
+        shares: Seq::new(Vec::new(alloc)),
         guests: Seq::new(Vec::new(alloc)),
         foreign: false,
     })

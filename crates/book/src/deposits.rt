@@ -3,7 +3,7 @@
 ghost use Rattle.std.specs.Prelude.{◌≡◌, IfErr, IfOk, Some, map};
 ghost use Rattle.std.specs.List.{range_with_len};
 ghost use Rattle.commons.specs.Bounds.{IsPool};
-ghost use Rattle.book.specs.Books.{IsFull, IsMissing, new_book, shares_in};
+ghost use Rattle.book.specs.Books.{IsFull, IsMissing, new_book, shares_in, with_share};
 ghost use Rattle.book.specs.Lost.{AreOrdered, IsFullBut, unlisted_of, with_unlisted};
 
 use crate::book::Book;
@@ -45,10 +45,7 @@ pub fn deposit_all(book: &mut Book, mut shares: Vec<Share>)
     ensures full { IsFull book.new }
 {
     while let Some(share) = shares.pop() {
-        if let Err((_, share)) = book.deposit(share) {
-            share.lose();
-            unreachable!()
-        }
+        fill(book, share);
     }
     shares.destroy_empty();
 }
@@ -77,7 +74,17 @@ fn deposit_unless(book: &mut Book, share: Share, listed: &[u32])
 {
     if listed.contains(&share.worker()) {
         share.lose();
-    } else if let Err((_, share)) = book.deposit(share) {
+    } else {
+        fill(book, share);
+    }
+}
+
+/// Puts a share in the place of its worker, which is empty.
+fn fill(book: &mut Book, share: Share)
+    requires { IsMissing book.old share.number }
+    ensures { book.new ≡ with_share book.old share }
+{
+    if let Err((_, share)) = book.deposit(share) {
         share.lose();
         unreachable!()
     }

@@ -10,7 +10,7 @@ pub returns-clause-typed : goal.returns-clause-typed
 returns-clause-typed c =
     let b = c.args.book.now in
     let left = snapshot_with b c.args.closed.now in
-    let desks = rw (c.in_ok-desks.ensures.same, c.as_slice-3.ensures) at c.in_ok-desks.ensures.packets in
+    let desks = rw c.in_ok-snapshot.ensures.same at c.in_ok-snapshot.ensures.on_desks in
     let slots = rw (c.in_ok-shares.ensures.same, c.places.ensures) at c.in_ok-shares.ensures.packets in
     let full = all_slots b.places (λ n m e. (c.fits_its_limits.ensures.each n m e).slots) in
     record {

@@ -22,12 +22,12 @@ loop-share-preserved c =
     let last = last_number first.limits.workers c.args.shares.items current rest i.0 s c.requires.workers i.1 popped in (
       s ∷ i.0,
       i.1 ∙ ap (λ ms. ms ++ i.0) popped ∙ append_assoc rest (s ∷ []) i.0,
-      c.in_default-deposit.ensures.filled ∙ one_filled first c.loop-share.book current rest i.0 s i.2 popped last.0,
+      c.fill.ensures ∙ one_filled first c.loop-share.book current rest i.0 s i.2 popped last.0,
     )
 
 -- its place was free
-pub unreachable-requires : goal.unreachable-requires
-unreachable-requires c =
+pub fill-requires : goal.fill-requires
+fill-requires c =
     let i = c.loop-share.invariant in
     let first = c.args.book.now in
     let current = c.loop-share.shares.items in
@@ -35,9 +35,7 @@ unreachable-requires c =
     let s = c.in-Some.share in
     let popped = c.in-Some.ensures.items in
     let last = last_number first.limits.workers c.args.shares.items current rest i.0 s c.requires.workers i.1 popped in
-    let missing = missing_yet first c.loop-share.book current rest i.0 s i.2 popped last.0 last.1 in
-    let ok = rw c.in-Err.is at (c.deposit.ensures.room.1 missing) in
-    grind (arith, ok)
+    missing_yet first c.loop-share.book current rest i.0 s i.2 popped last.0 last.1
 
 -- none is left, so all are in the book
 in_the_book : (c : goal.After-destroy_empty) → c.loop-share.book ≡ record c.args.book.now { places = filled c.args.shares.items }
