@@ -5,10 +5,11 @@ use Rattle.std.proofs.lemmas.List.Elements.{All-append, All-cons, All-nil}
 use Rattle.std.specs.Prelude.{flat_map}
 use Rattle.commons.specs.declared.packet.Seg.{Seg}
 use Rattle.mbuf.specs.Members.{Member, slots}
+use Rattle.pool_statement.specs.declared.guest.Guest.{Guest}
 use Rattle.snapshot.specs.declared.snapshot.ShareData.{ShareData}
 use Rattle.snapshot.specs.inside.Checked.{HasPackets, HavePackets, IsPacketIn}
 use Rattle.book.specs.Books.{shares_in}
-use Rattle.pool_model.specs.Guests.{guests_by}
+use Rattle.pool_model.specs.Guests.{guests_by, guests_in_slot}
 use Rattle.snapshot.specs.Closing.{share_of}
 
 -- the shares of places in two parts
@@ -61,6 +62,16 @@ guests_none_more places k place l e f =
     ap (λ ps. flat_map guests_by (shares_in ps)) (take_more places k place l)
     ∙ ap (λ p. flat_map guests_by (shares_in (take k places ++ p ∷ []))) (sym e ∙ f)
     ∙ ap (flat_map guests_by) (shares_in-append (take k places) (None ∷ []) ∙ append-nil (shares_in (take k places)))
+
+-- the guests of one slot more
+pub slot_guests_more : (first : List Guest) (worker : ℕ) (table : List (Option (List Seg))) (k : ℕ) (place : Option (List Seg)) →
+    k < length table → get_or table k None ≡ place →
+    (first ++ flat_map (guests_in_slot worker) (take k table)) ++ guests_in_slot worker place
+    ≡ first ++ flat_map (guests_in_slot worker) (take (k + 1) table)
+slot_guests_more first worker table k place l e =
+    flat_map_more (guests_in_slot worker) first (take k table) place
+    ∙ ap (λ p. first ++ flat_map (guests_in_slot worker) (take k table ++ p ∷ [])) (sym e)
+    ∙ ap (λ ps. first ++ flat_map (guests_in_slot worker) ps) (sym (take_more table k None l))
 
 -- one place more
 pub taken_more : {A : Type 0} → (places : List A) (k : ℕ) (place : A) → k < length places → place ≡ get_or places k place →
