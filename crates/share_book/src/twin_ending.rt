@@ -39,9 +39,6 @@ pub fn settled(alloc: Global, pools: TwinSite) -> Result<(Statement, Statement),
         × (s.1.available + s.1.in_use ≡ pools.second.limits.population)) }
     ensures memory { IfErr result (λ e. e ≡ Refusal.OutOfMemory) }
 {
-    pools.fits_its_limits();
-    pools.is_lawful_by_types();
-    pools.leaves_its_statements();
     match pools.close(alloc) {
         Ok(closed) => settled_twins(alloc, closed),
         Err((cause, pools)) => {
