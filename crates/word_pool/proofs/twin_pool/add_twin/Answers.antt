@@ -4,8 +4,14 @@ use Rattle.std.specs.Prelude.{IfOk}
 use Rattle.mbuf.specs.Twins.{TwinMember}
 use Rattle.word_pool.specs.TwinWorkers.{TwinState}
 use Rattle.word_pool.specs.inside.Crews.{new_member}
-use Rattle.word_pool.proofs.TwinCrews.{newcomer_at}
+use Rattle.word_pool.proofs.TwinCrews.{new_twin_is_own, newcomer_at}
 use Rattle.word_pool.proofs.twin_pool.add_twin.Goals as goal
+
+-- what it has is its own, at seats that name nothing
+pub new-requires-clause-own : goal.new-requires-clause-own
+new-requires-clause-own c =
+    new_twin_is_own c.args.first.now c.args.second.now c.args.number c.args.seats.first c.args.seats.second
+    c.in-Ok.twin c.in-Ok.ensures.first c.in-Ok.ensures.second c.requires.first_unused c.requires.second_unused
 
 pub returns-in-Ok-clause-added : goal.returns-in-Ok-clause-added
 returns-in-Ok-clause-added c =
