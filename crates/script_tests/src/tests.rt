@@ -131,6 +131,12 @@ fn played(alloc: Global, script: &str) -> Result<(Vec<(u32, Reply)>, Settled), F
     Ok(replay(alloc, &script)?)
 }
 
+/// What a script's pools come to.
+fn end_of(alloc: Global, script: &str) -> Result<Settled, Fail> {
+    let (_replies, settled) = played(alloc, script)?;
+    Ok(settled)
+}
+
 /// What replies print, each by its own call.
 fn text_of_replies(alloc: Global, replies: &[(u32, Reply)]) -> Result<String, Fail> {
     let mut text = Vec::new(alloc);
@@ -212,14 +218,37 @@ fn each_reply_prints_behind_its_line(rt: HostRuntime) -> Result<(), Fail> {
     Ok(())
 }
 
+/// The text of a statement.
+fn text_of_places(alloc: Global, places: &Places) -> Result<String, Fail> {
+    let statement = placed(alloc, places)?;
+    Ok(String::from_utf8(pool_text(alloc, &statement)?)?)
+}
+
 #[test]
 fn each_statement_prints_its_text(rt: HostRuntime) -> Result<(), Fail> {
     for (name, places, text) in statements::ROWS {
-        let statement = placed(rt.alloc(), places)?;
-        let printed = String::from_utf8(pool_text(rt.alloc(), &statement)?)?;
+        let printed = text_of_places(rt.alloc(), places)?;
         same(&rt, &printed.as_str(), text, name);
     }
     Ok(())
+}
+
+/// The JSON of what a script's pools come to.
+fn json_of_end(alloc: Global, settled: &Settled) -> Result<String, Fail> {
+    let bytes = statement_json(alloc, settled)?;
+    Ok(String::from_utf8(bytes)?)
+}
+
+/// What a script prints as JSON, at once.
+fn replayed_json(alloc: Global, script: &str) -> Result<String, Fail> {
+    let bytes = run_replay_json(alloc, script.as_bytes())?;
+    Ok(String::from_utf8(bytes)?)
+}
+
+/// The JSON of a script's end, by its own call.
+fn json_by_its_end(alloc: Global, script: &str) -> Result<String, Fail> {
+    let settled = end_of(alloc, script)?;
+    json_of_end(alloc, &settled)
 }
 
 /// A script prints this line, and its end does.
@@ -229,10 +258,9 @@ fn print_json_line<R: Abort + AllocGlobal>(
     line: &str,
     name: &str,
 ) -> Result<(), Fail> {
-    let whole = String::from_utf8(run_replay_json(rt.alloc(), script.as_bytes())?)?;
-    let (_replies, settled) = played(rt.alloc(), script)?;
-    let end = String::from_utf8(statement_json(rt.alloc(), &settled)?)?;
+    let whole = replayed_json(rt.alloc(), script)?;
     same(rt, &("at once", whole.as_str()), &("at once", line), name);
+    let end = json_by_its_end(rt.alloc(), script)?;
     same(rt, &("its end", end.as_str()), &("its end", line), name);
     Ok(())
 }

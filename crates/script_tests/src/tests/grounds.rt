@@ -1,7 +1,7 @@
 //! Runs in threads that come to one statement, whichever ground the pool rests on.
 
 use super::threads::{GROUNDS, TURNS};
-use super::{assert_given, json, played, same, text_of_end};
+use super::{assert_given, end_of, json, same, text_of_end};
 use commons::refusal::Refusal;
 use pool_statement::settled::Settled;
 use script::{Grounds, run_script, statement_text};
@@ -41,6 +41,17 @@ const ALIKE: &[&str] = &[
 const FIRST_END: &str = "population 3\navailable 2\nin use 1\ncommon 2: 0 2\ncache 1 0:\n\
     packet 1 1 segs 1 len 0: 1@128+0/2048\nheld 1 count 1: 1\n";
 
+/// The text of what a script's run on this ground comes to.
+fn text_of_run<R: Threads + Wait + Sync + Abort + AllocGlobal>(
+    rt: &R,
+    text: &str,
+    grounds: Grounds,
+    turns: u32,
+) -> Result<String, Fail> {
+    let settled = run_script(rt, rt.alloc(), text.as_bytes(), grounds, turns.max(1))?;
+    text_of_end(rt.alloc(), &settled)
+}
+
 /// A script's run on this ground ends so.
 fn assert_ends_on<R: Threads + Wait + Sync + Abort + AllocGlobal>(
     rt: &R,
@@ -50,9 +61,25 @@ fn assert_ends_on<R: Threads + Wait + Sync + Abort + AllocGlobal>(
     wanted: &str,
     name: &str,
 ) -> Result<(), Fail> {
-    let settled = run_script(rt, rt.alloc(), text.as_bytes(), grounds, turns.max(1))?;
-    let end = text_of_end(rt.alloc(), &settled)?;
+    let end = text_of_run(rt, text, grounds, turns)?;
     same(rt, &(grounds, end.as_str()), &(grounds, wanted), name);
+    Ok(())
+}
+
+/// A script's runs end so, this often on each ground.
+fn assert_ends_on_each<R: Threads + Wait + Sync + Abort + AllocGlobal>(
+    rt: &R,
+    text: &str,
+    times: u32,
+    turns: u32,
+    wanted: &str,
+    name: &str,
+) -> Result<(), Fail> {
+    for _ in 0..times {
+        for grounds in GROUNDS {
+            assert_ends_on(rt, text, grounds, turns, wanted, name)?;
+        }
+    }
     Ok(())
 }
 
@@ -65,13 +92,9 @@ pub(super) fn assert_ends_as_its_replay<R: Threads + Wait + Sync + Abort + Alloc
     turns: u32,
     name: &str,
 ) -> Result<Settled, Fail> {
-    let (_replies, replayed) = played(rt.alloc(), text)?;
+    let replayed = end_of(rt.alloc(), text)?;
     let wanted = text_of_end(rt.alloc(), &replayed)?;
-    for _ in 0..times {
-        for grounds in GROUNDS {
-            assert_ends_on(rt, text, grounds, turns, wanted.as_str(), name)?;
-        }
-    }
+    assert_ends_on_each(rt, text, times, turns, wanted.as_str(), name)?;
     Ok(replayed)
 }
 

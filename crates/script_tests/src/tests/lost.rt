@@ -108,6 +108,21 @@ const ROWS: &[Row] = &[
     ),
 ];
 
+/// What is lost prints this text, and this JSON.
+fn assert_printed<R: Abort + AllocGlobal>(
+    rt: &R,
+    lost: &[u32],
+    text: &str,
+    json: &str,
+    name: &str,
+) -> Result<(), Fail> {
+    let printed = String::from_utf8(lost_text(rt.alloc(), lost)?)?;
+    same(rt, &printed.as_str(), &text, name);
+    let printed = String::from_utf8(numbers_json(rt.alloc(), lost)?)?;
+    same(rt, &printed.as_str(), &json, name);
+    Ok(())
+}
+
 /// A run of a row does its lines, and prints what is lost or is refused.
 fn assert_lost<R: Threads + Wait + Sync + Abort + AllocGlobal>(
     rt: &R,
@@ -119,15 +134,12 @@ fn assert_lost<R: Threads + Wait + Sync + Abort + AllocGlobal>(
     let lost = run_lost(rt, rt.alloc(), &script, grounds, 1, *lose, &gate);
     same(rt, &gate.lines_done(), lines, name);
     match (lost, wanted) {
-        (Ok(lost), Ok((text, json))) => {
-            let printed = String::from_utf8(lost_text(rt.alloc(), lost.as_slice())?)?;
-            same(rt, &printed.as_str(), text, name);
-            let printed = String::from_utf8(numbers_json(rt.alloc(), lost.as_slice())?)?;
-            same(rt, &printed.as_str(), json, name);
+        (Ok(lost), Ok((text, json))) => assert_printed(rt, lost.as_slice(), text, json, name),
+        (lost, wanted) => {
+            same(rt, &lost.err(), &wanted.err(), name);
+            Ok(())
         }
-        (lost, wanted) => same(rt, &lost.err(), &wanted.err(), name),
     }
-    Ok(())
 }
 
 #[test]

@@ -176,17 +176,20 @@ const JSON: &str = "{\"first\":{\"available\":2,\"caches\":[[],[]],\"common\":[1
     \"population\":3},\"second\":{\"available\":2,\"caches\":[[],[]],\"common\":[0,1],\"desks\":[],\
     \"held\":[],\"in_use\":0,\"packets\":[],\"population\":2}}\n";
 
+/// Both statements, as text and as JSON.
+fn assert_settled<R: Abort + AllocGlobal>(rt: &R, settled: &Settled) {
+    let text = statement_text(rt.alloc(), settled);
+    assert_given(rt, text, TEXT, "both statements");
+    let json = statement_json(rt.alloc(), settled);
+    assert_given(rt, json, JSON, "both statements as JSON");
+}
+
 /// The causes in their order, and then both statements.
 fn assert_ended<R: Abort + AllocGlobal>(rt: &R, ended: Ended, wanted: &[TwinUnsettled]) {
     let (causes, settled) = ended;
     same(rt, &causes.as_slice(), &wanted, "the causes");
     match settled {
-        Some(settled) => {
-            let text = statement_text(rt.alloc(), &settled);
-            assert_given(rt, text, TEXT, "both statements");
-            let json = statement_json(rt.alloc(), &settled);
-            assert_given(rt, json, JSON, "both statements as JSON");
-        }
+        Some(settled) => assert_settled(rt, &settled),
         None => {
             assert!(rt; false, "what was handed back doesn't settle");
         }
