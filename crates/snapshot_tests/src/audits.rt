@@ -11,7 +11,7 @@ use snapshot::all_faults::{all_faults, all_faults_on};
 use snapshot::audit::audit;
 use snapshot::fault::Fault;
 use snapshot::snapshot::Snapshot;
-use std::alloc::Global;
+use std::alloc::{AllocError, Global};
 use std::fmt::Debug;
 use std::process::Abort;
 use std::test::Fail;
@@ -150,7 +150,7 @@ fn audit_rows<R: Abort + AllocGlobal>(rt: &R, rows: &[Row]) {
 #[test]
 fn each_snapshot_is_lawful_or_has_its_first_fault(rt: HostRuntime) {
     audit_rows(&rt, vectors::ROWS);
-    audit_rows(&rt, guests::ROWS);
+    audit_rows(&rt, guests::rows());
     audit_rows(&rt, places::ROWS);
     audit_rows(&rt, faults::LAWFUL);
     audit_rows(&rt, faults::SHAPES);
@@ -324,50 +324,78 @@ fn stack(
     }
 }
 
-/// The lines of all faults of a row's snapshot, their JSON, and that of two of it.
-fn texts_of(alloc: Global, row: &fault_texts::Row) -> Result<(Vec<u8>, Vec<u8>, Vec<u8>), Refusal> {
-    let (_, shown, list, front, _, _) = row;
-    let snapshot = match built(alloc, shown, None) {
-        Ok(snapshot) => snapshot,
-        Err(_) => return Err(Refusal::OutOfMemory),
+/// A snapshot, its stack, and all its faults.
+type Faulty = (Snapshot, Vec<u32>, Vec<Fault>);
+
+/// The lines of faults, their JSON, and that of two pools.
+type Texts = (Vec<u8>, Vec<u8>, Vec<u8>);
+
+/// A row's snapshot with its faults.
+fn faulty(alloc: Global, shown: &Shown, list: Option<&'static [u32]>) -> Result<Faulty, Refusal> {
+    let Ok(snapshot) = built(alloc, shown, None) else {
+        return Err(Refusal::OutOfMemory);
     };
-    let faults = match all_of(alloc, shown, *list) {
-        Ok(Some(faults)) => faults,
-        _ => return Err(Refusal::OutOfMemory),
-    };
-    let elems = stack(alloc, &snapshot, *list)?;
-    let (stack, faults) = (elems.as_slice(), faults.as_slice());
-    let lines = fault_lines(alloc, &snapshot, stack, faults, front.as_bytes())?;
-    let json = faults_json(alloc, &snapshot, stack, faults)?;
-    let both = two_faults_json(alloc, &snapshot, stack, &[], &snapshot, stack, faults)?;
+    let elems = stack(alloc, &snapshot, list)?;
+    match all_of(alloc, shown, list) {
+        Ok(Some(faults)) => Ok((snapshot, elems, faults)),
+        _ => Err(Refusal::OutOfMemory),
+    }
+}
+
+/// The texts of a snapshot's faults, and of two pools of which this is the second, and the first
+/// has none.
+fn told(
+    alloc: Global,
+    snapshot: &Snapshot,
+    stack: &[u32],
+    faults: &[Fault],
+    front: &str,
+) -> Result<Texts, Refusal> {
+    let lines = fault_lines(alloc, snapshot, stack, faults, front.as_bytes())?;
+    let json = faults_json(alloc, snapshot, stack, faults)?;
+    let both = two_faults_json(alloc, snapshot, stack, &[], snapshot, stack, faults)?;
     Ok((lines, json, both))
 }
 
+/// The texts of a row.
+fn texts_of(alloc: Global, row: &fault_texts::Row) -> Result<Texts, Refusal> {
+    let (_, shown, list, front, _, _) = row;
+    let (snapshot, elems, faults) = faulty(alloc, shown, *list)?;
+    told(alloc, &snapshot, elems.as_slice(), faults.as_slice(), front)
+}
+
+/// The JSON of two pools of which the second has the faults of this JSON.
+fn json_of_two(alloc: Global, json: &str) -> Result<String, AllocError> {
+    format!(in alloc; "{{\"first\":[],\"second\":{}}}\n", json.trim_end())
+}
+
+/// Whether these are the texts of a row.
+fn assert_texts(rt: &impl Abort, texts: &Texts, both: &str, row: &fault_texts::Row) {
+    let (name, _, _, _, lines, json) = row;
+    same(rt, &texts.0.as_slice(), &lines.as_bytes(), name);
+    same(rt, &texts.1.as_slice(), &json.as_bytes(), name);
+    same(rt, &texts.2.as_slice(), &both.as_bytes(), name);
+}
+
 /// Whether a row's texts are these. They may be refused where memory may.
-fn text_rows<R: Abort + AllocGlobal>(rt: &R, refused: bool) -> Result<(), Fail> {
+fn text_rows<R: Abort + AllocGlobal>(rt: &R, refused: bool) {
     for row in fault_texts::ROWS {
-        let (name, _, _, _, lines, json) = row;
-        let both = format!(in rt.alloc(); "{{\"first\":[],\"second\":{}}}\n", json.trim_end());
-        match (texts_of(rt.alloc(), row), both) {
-            (Ok(given), Ok(both)) => {
-                same(rt, &given.0.as_slice(), &lines.as_bytes(), name);
-                same(rt, &given.1.as_slice(), &json.as_bytes(), name);
-                same(rt, &given.2.as_slice(), &both.as_bytes(), name);
-            }
+        let (name, _, _, _, _, json) = row;
+        match (texts_of(rt.alloc(), row), json_of_two(rt.alloc(), json)) {
+            (Ok(texts), Ok(both)) => assert_texts(rt, &texts, both.as_str(), row),
             _ => assert!(rt; refused, "{name}: out of memory"),
         }
     }
-    Ok(())
 }
 
 #[test]
-fn all_faults_have_their_lines_and_their_json(rt: HostRuntime) -> Result<(), Fail> {
-    text_rows(&rt, false)
+fn all_faults_have_their_lines_and_their_json(rt: HostRuntime) {
+    text_rows(&rt, false);
 }
 
 #[test]
-fn refused_memory_changes_no_line_of_many(rt: HostRuntime) -> Result<(), Fail> {
-    text_rows(&rt, true)
+fn refused_memory_changes_no_line_of_many(rt: HostRuntime) {
+    text_rows(&rt, true);
 }
 
 /// Whichever request for memory is refused, the answer is the same or `OutOfMemory`.
@@ -383,6 +411,6 @@ fn rows_for_memory<R: Abort + AllocGlobal>(rt: &R, rows: &[Row]) {
 #[test]
 fn refused_memory_changes_no_answer(rt: HostRuntime) {
     rows_for_memory(&rt, faults::FOR_MEMORY);
-    rows_for_memory(&rt, guests::ROWS);
+    rows_for_memory(&rt, guests::rows());
     told_rows(&rt, true);
 }

@@ -80,7 +80,12 @@ const FULL: &[Guest] = &[Guest { worker: 1, elem: 0 }; 8_192];
 /// And one more.
 const MANY: &[Guest] = &[Guest { worker: 1, elem: 0 }; 8_193];
 
-pub(super) const ROWS: &[Row] = &[
+/// The rows. Two tests name them by this function, so that the table is proved once.
+pub(super) fn rows() -> &'static [Row] {
+    ROWS
+}
+
+const ROWS: &[Row] = &[
     ("a guest is held by its worker", FIRST, Ok(FIRST_PLACES)),
     (
         "a guest is one hold more",
